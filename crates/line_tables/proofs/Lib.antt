@@ -1,0 +1,3 @@
+pub mod DraftFacts
+pub mod FileFacts
+mod Rows

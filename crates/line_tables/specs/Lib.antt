@@ -1,0 +1,5 @@
+pub mod Draft
+pub mod Faults
+pub mod LineFile
+pub mod Names
+pub mod Table

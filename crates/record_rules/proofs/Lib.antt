@@ -1,0 +1,4 @@
+pub mod FieldFacts
+pub mod FaultFacts
+pub mod ReadFacts
+pub mod RecordFacts

@@ -1,0 +1,50 @@
+-- What contracts see of the shelf, the source and the sink in memory.
+use Rattle.std.specs.Prelude.{ℕ, ◌+◌, ◌-◌, ◌^◌, ◌≤◌, min, List, [], ◌∷◌, length, if◌then◌else◌, Option, Some, None, Contains, ◌⊎◌, ◌≡◌, Result, Ok, Err}
+use Rattle.run_io.specs.declared.Fetch.{Fetch}
+use Rattle.run_io.specs.declared.Fetch.TheVariants.{Failed, Absent, TooLong, Memory}
+use Rattle.std.specs.Str.{bytes_eq}
+
+-- a count with one more, up to the end of its type
+abbrev pub one_more : ℕ → ℕ
+one_more count = min (count + 1) (2 ^ 64 - 1)
+
+-- a shelf: its files, the numbers of the calls that fail, and how many calls and faults there were
+pub record ShelfState : Type 0 where
+  pub files : List (List ℕ × List ℕ)
+  pub failing : List ℕ
+  pub calls : ℕ
+  pub faults : ℕ
+
+-- the bytes of the first file of a name
+abbrev pub find_file : List (List ℕ × List ℕ) → List ℕ → Option (List ℕ)
+find_file [] name = None
+find_file (f ∷ files) name = if bytes_eq f.0 name then Some f.1 else find_file files name
+
+-- a source: the bytes that are left, and how many it gives at a call
+pub record SourceState : Type 0 where
+  pub left : List ℕ
+  pub most : ℕ
+  pub failing : List ℕ
+  pub calls : ℕ
+  pub faults : ℕ
+
+-- a sink: the bytes written, its room, and how many it takes at a call
+pub record SinkState : Type 0 where
+  pub written : List ℕ
+  pub room : ℕ
+  pub most : ℕ
+  pub failing : List ℕ
+  pub calls : ℕ
+  pub faults : ℕ
+
+-- the next write fails: its number is one of those that fail, or the room is full
+abbrev pub WriteFails : SinkState → Type 0
+WriteFails s = Contains s.failing (one_more s.calls) ⊎ (s.room ≤ length s.written)
+
+-- a fetch counts itself, and a fault where it failed
+abbrev pub ShelfAfter : ShelfState → ShelfState → Result (Unit {0}) Fetch → Type 0
+ShelfAfter old new (Ok u) = new ≡ record old { calls = one_more old.calls }
+ShelfAfter old new (Err Failed) = new ≡ record old { calls = one_more old.calls; faults = one_more old.faults }
+ShelfAfter old new (Err Absent) = new ≡ record old { calls = one_more old.calls }
+ShelfAfter old new (Err TooLong) = new ≡ record old { calls = one_more old.calls }
+ShelfAfter old new (Err Memory) = new ≡ record old { calls = one_more old.calls }

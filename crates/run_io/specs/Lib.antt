@@ -1,0 +1,6 @@
+pub mod Causes
+pub mod Fetches
+pub mod InMemory
+pub mod Pages
+pub mod Texts
+pub mod Writes

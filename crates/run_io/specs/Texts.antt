@@ -1,0 +1,7 @@
+-- Texts of many lines.
+use Rattle.std.specs.Prelude.{ℕ, zero, suc, List, [], ◌++◌}
+
+-- the lines of the numbers below n, one after another
+abbrev pub lines_below : (ℕ → List ℕ) → ℕ → List ℕ
+lines_below line zero = []
+lines_below line (suc n) = lines_below line n ++ line n

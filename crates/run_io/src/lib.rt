@@ -1,0 +1,99 @@
+//! The outside of a run: a shelf of files, a source of input and a sink of output, each with a count
+//! of its faults; their forms in memory and their real adapters; and pages of text on their way out.
+#![tactic(auto)]
+
+ghost use Rattle.std.specs.Prelude.{◌≡◌, ℕ, ◌^◌, ◌<◌, ◌≤◌, List, [], length, Option, OnOk, OnErr};
+ghost use Rattle.std.specs.Io.{ReadsAtMost};
+ghost use Rattle.std.specs.Io.KnownBytes.{Appends, ReadConsumes, WriteAppends};
+ghost use Rattle.run_io.specs.Causes.{HasCause};
+ghost use Rattle.run_io.specs.Fetches.{FetchCause, Fetches, Files};
+ghost use Rattle.run_io.specs.Writes.{AppendsFront, TakesSome};
+
+mod host;
+mod memory;
+mod pages;
+
+pub use host::{HostShelf, HostSink, HostSource};
+pub use memory::{MemShelf, MemSink, MemSource};
+pub use pages::{PAGE, Page};
+
+/// A read or a write failed.
+#[derive(Clone, Copy, Debug, PartialEq, Eq)]
+pub struct Failed;
+
+/// Why a file was not fetched.
+#[derive(Clone, Copy, Debug, PartialEq, Eq)]
+pub enum Fetch {
+    /// The shelf failed.
+    Failed,
+    /// There is no file of that name.
+    Absent,
+    /// The file has more bytes than were asked for.
+    TooLong,
+    Memory,
+}
+
+/// A shelf of named files.
+pub trait Shelf {
+    /// The files, where they are told. No call changes them.
+    ghost files: { Self → Files };
+
+    /// How often the shelf has failed.
+    ghost faults: { Self → ℕ };
+
+    /// Fetches a file of at most `most` bytes into an empty vector. After [`Fetch::TooLong`] there
+    /// is one byte more, and after the other refusals nothing is said of `into`.
+    fn fetch(&mut self, name: &str, most: u64, into: &mut Vec<u8>) -> Result<(), Fetch>
+        requires empty { into.old.items ≡ [] }
+        requires small { most ≤ 2 ^ 40 }
+        ensures files { files self.new ≡ files self.old }
+        ensures bytes { Fetches (files self.old) name.now most result into.new.items }
+        ensures cause { FetchCause (faults self.old) (faults self.new) result };
+}
+
+/// A source of input.
+pub trait Source {
+    /// The bytes that are left, where they are told.
+    ghost left: { Self → Option (List ℕ) };
+
+    /// How often the source has failed.
+    ghost faults: { Self → ℕ };
+
+    /// Reads the next bytes into the front of the buffer; none only at the end of the input. A
+    /// failure takes nothing.
+    fn read(&mut self, buf: &mut [u8]) -> Result<usize, Failed>
+        requires { 0 < length buf.old }
+        ensures bound { ReadsAtMost result buf.new }
+        ensures bytes { ReadConsumes (left self.old) (left self.new) result buf.new }
+        ensures cause { HasCause (faults self.old) (faults self.new) result };
+}
+
+/// A sink of output.
+pub trait Sink {
+    /// The bytes written, where they are told.
+    ghost written: { Self → Option (List ℕ) };
+
+    /// How often the sink has failed.
+    ghost faults: { Self → ℕ };
+
+    /// Writes a front of the piece, of at least one byte. A failure writes nothing.
+    fn write(&mut self, piece: &[u8]) -> Result<usize, Failed>
+        requires { 0 < length piece.now }
+        ensures bound { TakesSome result piece.now }
+        ensures bytes { WriteAppends (written self.old) (written self.new) result piece.now }
+        ensures cause { HasCause (faults self.old) (faults self.new) result };
+}
+
+/// Writes the whole piece. After a failure a front of it was written.
+pub fn write_whole<K: Sink>(out: &mut K, piece: &[u8]) -> Result<(), Failed>
+    ensures ok { OnOk result (Appends (K.written out.old) (K.written out.new) piece.now) }
+    ensures failed { OnErr result (AppendsFront (K.written out.old) (K.written out.new) piece.now) }
+    ensures cause { HasCause (K.faults out.old) (K.faults out.new) result }
+{
+    let mut at = 0;
+    while at < piece.len() {
+        let count = out.write(&piece[at..])?;
+        at += count;
+    }
+    Ok(())
+}
