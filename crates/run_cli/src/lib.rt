@@ -1,13 +1,78 @@
-// A library with one function.
+//! The top call of rtime: it runs the words of a command line over a shelf of files, an input and an
+//! output, and says how it ended.
 #![tactic(auto)]
 
-ghost use Rattle.std.specs.Prelude.{◌≡◌};
-ghost use Rattle.run_cli.specs.Echo.{echo_of};
+ghost use Rattle.std.specs.Prelude.{◌≡◌, ◌≤◌, ◌⊎◌, None, map, string_bytes, IfSome};
+ghost use Rattle.run_cli.specs.Answers.{Answers};
+ghost use Rattle.run_cli.specs.Ends.{EndsAs, EndsWhole, HasCauses, IsQuiet};
+ghost use Rattle.run_cli.specs.Finishes.{FinishesAs};
+ghost use Rattle.run_cli.specs.Stops.{StopsAs, StopsBy};
+ghost use Rattle.run_cli.specs.Words.{form_of, named_files};
 
-// The `ensures` clause is the contract: what `echo` returns is `echo_of` of its argument, a definition
-// in `specs/Echo.antt`, which a caller's clause can cite too.
-pub fn echo(x: usize) -> usize
-    ensures { result ≡ echo_of x }
+mod caps;
+mod files;
+mod status;
+mod words;
+
+use crate::caps::run_caps;
+use crate::words::{Form, read_form};
+pub use files::MOST_BYTES;
+use run_io::{Failed, Page, Shelf, Sink, Source};
+pub use status::Status;
+use std::alloc::Global;
+use std::sync::ledger::Ledger;
+use unit_rules::Steps;
+
+/// Runs the words of a command line, which don't hold the program's own name. All text goes to
+/// `out`.
+pub fn run<S: Shelf, I: Source, K: Sink, L: Ledger>(
+    alloc: Global,
+    words: &[String],
+    shelf: &mut S,
+    input: &mut I,
+    out: &mut K,
+    steps: &mut Steps<L>,
+) -> Status
+    ensures ends { IfSome (S.files shelf.old) (λ files. EndsAs (Answers (map string_bytes words.now) files) (K.written out.old) (K.written out.new) result) }
+    ensures causes { HasCauses (map string_bytes words.now) (S.files shelf.old) (S.faults shelf.old) (S.faults shelf.new) (K.faults out.old) (K.faults out.new) result }
+    ensures complete { IsQuiet (S.faults shelf.old) (S.faults shelf.new) → IsQuiet (K.faults out.old) (K.faults out.new)
+        → IfSome (S.files shelf.old) (λ files. (result ≡ Status.Memory) ⊎ EndsWhole (Answers (map string_bytes words.now) files) result (K.written out.old) (K.written out.new)) }
+    ensures steps { steps.new ≡ steps.old }
 {
-    x
+    let stopped = run_form(words, alloc, shelf, out);
+    finish(out, stopped)
+}
+
+// Runs the form that the words are, and stops with the status of what is in its way.
+fn run_form<S: Shelf, K: Sink>(
+    words: &[String],
+    alloc: Global,
+    shelf: &mut S,
+    out: &mut K,
+) -> Result<(), Status>
+    ensures ends { IfSome (S.files shelf.old) (λ files. StopsAs (Answers (map string_bytes words.now) files) (K.written out.old) (K.written out.new) result) }
+    ensures causes { StopsBy (form_of (map string_bytes words.now) ≡ None) (named_files (map string_bytes words.now)) (S.files shelf.old) (S.faults shelf.old) (S.faults shelf.new) (K.faults out.old) (K.faults out.new) result }
+{
+    match read_form(words) {
+        None => Err(Status::Usage),
+        Some(Form::Caps { train, top }) => {
+            run_caps(alloc, shelf, out, words[1].as_str(), train, top)
+        }
+    }
+}
+
+// Writes the text of the status at which a form stopped, and says how the run ends.
+fn finish<K: Sink>(out: &mut K, stopped: Result<(), Status>) -> Status
+    ensures ends { FinishesAs stopped (K.written out.old) (K.written out.new) (K.faults out.old) (K.faults out.new) result }
+    ensures later { K.faults out.old ≤ K.faults out.new }
+{
+    let Err(status) = stopped else {
+        return Status::Done;
+    };
+    let mut page = Page::new();
+    status.put(&mut page);
+    match page.flush(out) {
+        Ok(()) => status,
+        Err(Failed) => Status::WriteFault,
+    }
 }

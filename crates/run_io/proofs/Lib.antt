@@ -1,3 +1,4 @@
 pub mod Files
 pub mod PageFacts
+pub mod TextFacts
 pub mod Written

@@ -1,0 +1,150 @@
+-- How a run ends, by where its form stopped.
+use Rattle.std.proofs.Common.{◌≡◌, ◌≤◌, ◌<◌, ◌⊎◌, ℕ, List, [], ◌∷◌, ◌++◌, length, take, map, get_or, zero, suc, Option, Some, None, Result, Ok, Err, OnErr, IfSome, IfErr, refl, sym, ap, subst, inl, inr, arith}
+use Rattle.std.proofs.lemmas.List.{append-nil}
+use Rattle.std.proofs.lemmas.Grind.{common_steps}
+use Rattle.std.specs.Io.KnownBytes.{Appends}
+use Rattle.run_io.specs.Causes.{Rose}
+use Rattle.run_io.specs.Fetches.{Files}
+use Rattle.run_io.specs.Writes.{AppendsFront}
+use Rattle.run_io.proofs.Written.{Appends-trans, AppendsFront-none}
+use Rattle.unit_rules.specs.Memory.{Gives}
+use Rattle.line_tables.specs.LineFile.{reading_of}
+use Rattle.line_tables.specs.Table.{LineTable}
+use Rattle.line_tables.specs.declared.LineFault.{LineFault}
+use Rattle.line_tables.specs.declared.LineFault.TheVariants as fault
+use Rattle.run_cli.specs.Answers.{AnswersCaps, WithLine, Is}
+use Rattle.run_cli.specs.Ends.{CausedBy, EndsAs, EndsShort, EndsWhole}
+use Rattle.run_cli.specs.Files.{Fetched}
+use Rattle.run_cli.specs.Finishes.{FinishesAs}
+use Rattle.run_cli.specs.Statuses.{status_text}
+use Rattle.run_cli.specs.Stops.{StopsAs, StopsAt, StopsBefore, StopsBy}
+use Rattle.run_cli.specs.Texts.{caps_text}
+use Rattle.run_cli.specs.Words.{IsForm, form_of, named_files, word}
+use Rattle.run_cli.specs.declared.words.Form.{Form}
+use Rattle.run_cli.specs.declared.words.Form.TheVariants.{Caps}
+use Rattle.run_cli.specs.declared.status.Status.{Status}
+use Rattle.run_cli.specs.declared.status.Status.TheVariants.{Done, Memory, Usage, ReadFault, WriteFault, Refused, TooLong}
+
+pub OnErr-always : {T E P : Type 0} (r : Result T E) → P → OnErr r P
+OnErr-always (Ok x) p = tt
+OnErr-always (Err e) p = p
+
+pub OnErr-along : {T E P Q : Type 0} (r : Result T E) → (P → Q) → OnErr r P → OnErr r Q
+OnErr-along (Ok x) f h = tt
+OnErr-along (Err e) f h = f h
+
+Rose-after : (before mid now : ℕ) → before ≤ mid → Rose mid now → Rose before now
+Rose-after before mid now h r = omega (arith, h, r)
+
+Rose-before : (before mid now : ℕ) → Rose before mid → mid ≤ now → Rose before now
+Rose-before before mid now r h = omega (arith, h, r)
+
+-- the text of a status, or a front of it, behind nothing
+EndsAs-text : (answers : Status → List ℕ → Type 0) (status : Status) (a b c : Option (List ℕ)) (before now : ℕ) (result : Status)
+    → StopsBefore answers status a b → (EndsWhole answers status a c → EndsAs answers a c status)
+    → ((result ≡ status) × Appends b c (status_text status)) ⊎ ((result ≡ WriteFault) × AppendsFront b c (status_text status) × Rose before now) → EndsAs answers a c result
+EndsAs-text answers status a b c before now result stop whole (inl h) =
+    subst (λ (r : Status). EndsAs answers a c r) (sym h.0) (whole (record { text = status_text status; answer = stop.answer; written = Appends-trans a b c [] (status_text status) stop.unwritten h.1 }))
+EndsAs-text answers status a b c before now result stop whole (inr h) =
+    let front = h.1 in
+    subst (λ (r : Status). EndsAs answers a c r) (sym h.0)
+    (inr (record { status = status; text = status_text status; answer = stop.answer; written = (front.0, front.1, Appends-trans a b c [] (take front.0 (status_text status)) stop.unwritten front.2) }))
+
+-- nothing behind what a status that has no text of its own left
+Appends-none : (a b c : Option (List ℕ)) (xs : List ℕ) → Appends a b xs → Appends b c [] → Appends a c xs
+Appends-none a b c xs p q = subst (λ (l : List ℕ). Appends a c l) (append-nil xs) (Appends-trans a b c xs [] p q)
+
+EndsShort-none : (answers : Status → List ℕ → Type 0) (a b c : Option (List ℕ)) → Appends a b [] ⊎ EndsShort answers a b → Appends b c [] → Appends a c [] ⊎ EndsShort answers a c
+EndsShort-none answers a b c (inl h) q = inl (Appends-none a b c [] h q)
+EndsShort-none answers a b c (inr h) q =
+    let front = h.written in
+    inr (record { status = h.status; text = h.text; answer = h.answer; written = (front.0, front.1, Appends-none a b c (take front.0 h.text) front.2 q) })
+
+-- a front of nothing is nothing
+Appends-front_none : (b c : Option (List ℕ)) → AppendsFront b c [] → Appends b c []
+Appends-front_none b c f =
+    let none : take f.0 [] ≡ [] = grind (arith, common_steps) in
+    subst (λ (l : List ℕ). Appends b c l) none f.2
+
+-- a status that has no text of its own stays, or the sink fails behind it
+either_way : (status : Status) (b c : Option (List ℕ)) (before now : ℕ) (result : Status) → status_text status ≡ []
+    → ((result ≡ status) × Appends b c (status_text status)) ⊎ ((result ≡ WriteFault) × AppendsFront b c (status_text status) × Rose before now)
+    → ((result ≡ status) ⊎ (result ≡ WriteFault)) × Appends b c []
+either_way status b c before now result e (inl h) = (inl h.0, rw e at h.1)
+either_way status b c before now result e (inr h) = (inr h.0, Appends-front_none b c (rw e at h.1))
+
+-- a run ends as its form stopped and its status was written
+pub EndsAs-finish : (answers : Status → List ℕ → Type 0) (a b c : Option (List ℕ)) (before now : ℕ) (stopped : Result (Unit {0}) Status) (result : Status)
+    → StopsAs answers a b stopped → FinishesAs stopped b c before now result → EndsAs answers a c result
+EndsAs-finish answers a b c before now (Ok u) result s f =
+    subst (λ (r : Status). EndsAs answers a c r) (sym f.0) (record { text = s.text; answer = s.answer; written = Appends-none a b c s.text s.written f.1 })
+EndsAs-finish answers a b c before now (Err Memory) result s f = by (either_way Memory b c before now result refl f)
+  where
+    by : ((result ≡ Memory) ⊎ (result ≡ WriteFault)) × Appends b c [] → EndsAs answers a c result
+    by (inl e, q) = subst (λ (r : Status). EndsAs answers a c r) (sym e) (EndsShort-none answers a b c s q)
+    by (inr e, q) = subst (λ (r : Status). EndsAs answers a c r) (sym e) (EndsShort-none answers a b c s q)
+EndsAs-finish answers a b c before now (Err WriteFault) result s f = by (either_way WriteFault b c before now result refl f)
+  where
+    by : ((result ≡ WriteFault) ⊎ (result ≡ WriteFault)) × Appends b c [] → EndsAs answers a c result
+    by (inl e, q) = subst (λ (r : Status). EndsAs answers a c r) (sym e) (EndsShort-none answers a b c s q)
+    by (inr e, q) = subst (λ (r : Status). EndsAs answers a c r) (sym e) (EndsShort-none answers a b c s q)
+EndsAs-finish answers a b c before now (Err ReadFault) result s f = by (either_way ReadFault b c before now result refl f)
+  where
+    by : ((result ≡ ReadFault) ⊎ (result ≡ WriteFault)) × Appends b c [] → EndsAs answers a c result
+    by (inl e, q) = subst (λ (r : Status). EndsAs answers a c r) (sym e) (Appends-none a b c [] s q)
+    by (inr e, q) = subst (λ (r : Status). EndsAs answers a c r) (sym e) (inl (Appends-none a b c [] s q))
+EndsAs-finish answers a b c before now (Err Usage) result s f = EndsAs-text answers Usage a b c before now result s (λ w. w) f
+EndsAs-finish answers a b c before now (Err (Refused file place rule)) result s f = EndsAs-text answers (Refused file place rule) a b c before now result s (λ w. w) f
+EndsAs-finish answers a b c before now (Err (TooLong file)) result s f = EndsAs-text answers (TooLong file) a b c before now result s (λ w. w) f
+EndsAs-finish answers a b c before now (Err Done) result s f = absurd s
+
+-- the same over a shelf that may tell its files
+pub EndsAs-told : (told : Files) (answers : (List ℕ → Option (List ℕ)) → Status → List ℕ → Type 0) (a b c : Option (List ℕ)) (before now : ℕ) (stopped : Result (Unit {0}) Status) (result : Status)
+    → IfSome told (λ files. StopsAs (answers files) a b stopped) → FinishesAs stopped b c before now result → IfSome told (λ files. EndsAs (answers files) a c result)
+EndsAs-told None answers a b c before now stopped result s f = tt
+EndsAs-told (Some files) answers a b c before now stopped result s f = EndsAs-finish (answers files) a b c before now stopped result s f
+
+-- where the sink failed in the text of `caps`, a front of an answer was written
+pub StopsAs-caps : (told : Files) (name bytes : List ℕ) (line : LineTable) (train top : ℕ) (old new : Option (List ℕ)) (stopped : Result (Unit {0}) Status)
+    → Fetched told name bytes → Gives (Err fault.Memory) (reading_of bytes) (Ok line) → AppendsFront old new (caps_text line train top) → stopped ≡ Err WriteFault
+    → IfSome told (λ files. StopsAs (AnswersCaps train top (files name)) old new stopped)
+StopsAs-caps None name bytes line train top old new stopped fetched (inl g) front e = tt
+StopsAs-caps None name bytes line train top old new stopped fetched (inr g) front e = tt
+StopsAs-caps (Some files) name bytes line train top old new stopped fetched (inl g) front e = cc g
+StopsAs-caps (Some files) name bytes line train top old new stopped fetched (inr g) front e =
+    let same = fetched.same in
+    let short = fetched.short in
+    let answer : AnswersCaps train top (files name) Done (caps_text line train top) =
+    rw same (inr (short, subst (λ (r : Result LineTable LineFault). WithLine r (λ l. Is Done (caps_text l train top)) Done (caps_text line train top)) g (record { status_is = refl; text_is = refl }))) in
+    rw e (inr (record { status = Done; text = caps_text line train top; answer = answer; written = front }))
+
+-- a word by its place
+pub word-string_bytes : {W : Type 0} (bytes : W → List ℕ) (words : List W) (place : ℕ) (w : W) → w ≡ get_or words place w → place < length words → bytes w ≡ word (map bytes words) place
+word-string_bytes bytes [] place w e h = absurd (omega arith)
+word-string_bytes bytes (x ∷ xs) zero w e h = ap bytes e
+word-string_bytes bytes (x ∷ xs) (suc place) w e h = word-string_bytes bytes xs place w e (omega arith)
+
+-- a form has a word for its file
+pub IsForm-files : {count : ℕ} (form : Form) → IsForm count form → 1 < count
+IsForm-files (Caps train top) h = omega (arith, h.words)
+
+-- the causes that a form has, by the words that ask for it
+pub StopsBy-caps : (words : List (List ℕ)) (form : Form) (files : Files) (name : List ℕ) (shelf shelf' sink sink' : ℕ) (stopped : Result (Unit {0}) Status)
+    → form_of words ≡ Some form → name ≡ word words 1 → StopsBy ⊥ (name ∷ []) files shelf shelf' sink sink' stopped
+    → StopsBy (form_of words ≡ None) (named_files words) files shelf shelf' sink sink' stopped
+StopsBy-caps words (Caps train top) files name shelf shelf' sink sink' stopped e n s =
+    record { later = s.later; cause = by stopped s.cause }
+  where
+    names : name ∷ [] ≡ named_files words
+    names = rw (e, n) refl
+    at : (t : Status) → CausedBy ⊥ (name ∷ []) files shelf shelf' sink sink' t → CausedBy (form_of words ≡ None) (named_files words) files shelf shelf' sink sink' t
+    at Memory h = tt
+    at Done h = tt
+    at Usage h = absurd h
+    at ReadFault h = subst (λ (q : List (List ℕ)). CausedBy ⊥ q files shelf shelf' sink sink' ReadFault) names h
+    at WriteFault h = h
+    at (Refused file place rule) h = tt
+    at (TooLong file) h = tt
+    by : (r : Result (Unit {0}) Status) → IfErr r (CausedBy ⊥ (name ∷ []) files shelf shelf' sink sink') → IfErr r (CausedBy (form_of words ≡ None) (named_files words) files shelf shelf' sink sink')
+    by (Ok u) h = tt
+    by (Err t) h = at t h

@@ -1,0 +1,53 @@
+-- How a run ends: its status, what it wrote, and the cause of each fault.
+use Rattle.std.specs.Prelude.{ℕ, ◌-◌, ◌^◌, ◌<◌, ◌≡◌, ◌⊎◌, List, [], Option, None, Any, ⊤}
+use Rattle.std.specs.Io.KnownBytes.{Appends}
+use Rattle.run_io.specs.Causes.{Rose}
+use Rattle.run_io.specs.Fetches.{Files, IsAbsent}
+use Rattle.run_io.specs.Writes.{AppendsFront}
+use Rattle.run_cli.specs.Words.{form_of, named_files}
+use Rattle.run_cli.specs.declared.status.Status.{Status}
+use Rattle.run_cli.specs.declared.status.Status.TheVariants.{Done, Memory, Usage, ReadFault, WriteFault, Refused, TooLong}
+
+-- a text that answers was written whole, under its status
+pub record EndsWhole (answers : Status → List ℕ → Type 0) (status : Status) (old new : Option (List ℕ)) : Type 0 where
+  pub text : List ℕ
+  pub answer : answers status text
+  pub written : Appends old new text
+
+-- a front of a text that answers was written
+pub record EndsShort (answers : Status → List ℕ → Type 0) (old new : Option (List ℕ)) : Type 0 where
+  pub status : Status
+  pub text : List ℕ
+  pub answer : answers status text
+  pub written : AppendsFront old new text
+
+-- a run that ended so wrote its whole text; after want of memory or a fault of the sink nothing or a front of it, and
+-- after a fault of reading nothing
+abbrev pub EndsAs : (Status → List ℕ → Type 0) → Option (List ℕ) → Option (List ℕ) → Status → Type 0
+EndsAs answers old new Memory = Appends old new [] ⊎ EndsShort answers old new
+EndsAs answers old new WriteFault = Appends old new [] ⊎ EndsShort answers old new
+EndsAs answers old new ReadFault = Appends old new []
+EndsAs answers old new Done = EndsWhole answers Done old new
+EndsAs answers old new Usage = EndsWhole answers Usage old new
+EndsAs answers old new (Refused file place rule) = EndsWhole answers (Refused file place rule) old new
+EndsAs answers old new (TooLong file) = EndsWhole answers (TooLong file) old new
+
+-- the cause of a status: for a fault a count that rose, or one of the files that is not there; for a refused command
+-- line that fact
+abbrev pub CausedBy : Type 0 → List (List ℕ) → Files → ℕ → ℕ → ℕ → ℕ → Status → Type 0
+CausedBy no_form names files shelf shelf' sink sink' ReadFault = Rose shelf shelf' ⊎ Any (IsAbsent files) names
+CausedBy no_form names files shelf shelf' sink sink' WriteFault = Rose sink sink'
+CausedBy no_form names files shelf shelf' sink sink' Usage = no_form
+CausedBy no_form names files shelf shelf' sink sink' Memory = ⊤
+CausedBy no_form names files shelf shelf' sink sink' Done = ⊤
+CausedBy no_form names files shelf shelf' sink sink' (Refused file place rule) = ⊤
+CausedBy no_form names files shelf shelf' sink sink' (TooLong file) = ⊤
+
+-- the cause of a status, by the words
+abbrev pub HasCauses : List (List ℕ) → Files → ℕ → ℕ → ℕ → ℕ → Status → Type 0
+HasCauses words files shelf shelf' sink sink' s = CausedBy (form_of words ≡ None) (named_files words) files shelf shelf' sink sink' s
+
+-- a count that did not rise, and does not stand at the end of its type
+pub record IsQuiet (before now : ℕ) : Type 0 where
+  pub room : before < 2 ^ 64 - 1
+  pub same : now ≡ before

@@ -1,0 +1,99 @@
+//! How a run ends.
+
+ghost use Rattle.std.specs.Prelude.{◌≡◌, ◌++◌, []};
+ghost use Rattle.run_cli.specs.Exits.{exit_of};
+ghost use Rattle.run_cli.specs.Statuses.{line_status, status_text};
+ghost use Rattle.run_cli.specs.declared.status.Status.TheVariants.{WriteFault};
+
+use line_tables::LineFault;
+use run_io::{Failed, Page};
+
+/// How a run ends.
+#[derive(Clone, Copy, Debug, PartialEq, Eq)]
+pub enum Status {
+    /// The command did all its work, and its text was written whole.
+    Done,
+    /// Memory was wanted and could not be had.
+    Memory,
+    /// The words are none of the forms.
+    Usage,
+    /// A file or the input could not be read.
+    ReadFault,
+    /// The output could not be written.
+    WriteFault,
+    /// A file breaks a rule: the file by its number, the place in it, and the least rule broken
+    /// there.
+    Refused { file: u32, place: u64, rule: u32 },
+    /// A file, by its number, has too many bytes.
+    TooLong { file: u32 },
+}
+
+impl Status {
+    /// The exit status of the process.
+    pub fn exit(&self) -> u8
+        ensures { result ≡ exit_of self.now }
+    {
+        match self {
+            Status::Done => 0,
+            Status::Memory => 1,
+            Status::Usage => 2,
+            Status::ReadFault => 3,
+            Status::WriteFault => 4,
+            Status::Refused { .. } => 5,
+            Status::TooLong { .. } => 8,
+        }
+    }
+
+    // Puts the text of the status on an empty page.
+    pub(crate) fn put(&self, page: &mut Page)
+        requires { page.old ≡ [] }
+        ensures { page.new ≡ status_text self.now }
+    {
+        match *self {
+            Status::Done | Status::Memory | Status::ReadFault | Status::WriteFault => {}
+            Status::Usage => page.put(b"usage\n"),
+            Status::Refused { file, place, rule } => {
+                page.put(b"refused ");
+                page.put_number(file as u64);
+                page.put(b" ");
+                page.put_number(place);
+                page.put(b" ");
+                page.put_number(rule as u64);
+                page.put(b"\n");
+            }
+            Status::TooLong { file } => {
+                page.put(b"too long ");
+                page.put_number(file as u64);
+                page.put(b"\n");
+            }
+        }
+    }
+}
+
+impl From<Failed> for Status {
+    ghost from_gives = { λ _ s. s ≡ WriteFault };
+
+    fn from(_: Failed) -> Status {
+        Status::WriteFault
+    }
+}
+
+impl From<LineFault> for Status {
+    ghost from_gives = { λ e s. s ≡ line_status e };
+
+    fn from(fault: LineFault) -> Status {
+        match fault {
+            LineFault::Bad { place, rule } => Status::Refused {
+                file: 1,
+                place,
+                rule,
+            },
+            LineFault::Missing => Status::Refused {
+                file: 1,
+                place: 0,
+                rule: 0,
+            },
+            LineFault::Memory => Status::Memory,
+        }
+    }
+}

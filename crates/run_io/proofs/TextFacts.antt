@@ -1,0 +1,29 @@
+-- Texts of many lines, put line by line on a page.
+use Rattle.std.proofs.Common.{◌≡◌, ◌≤◌, ◌<◌, ◌+◌, ◌-◌, ℕ, zero, suc, List, [], ◌++◌, length, Option, refl, sym, ap, ◌∙◌, append_assoc, arith, add-one, add-zero}
+use Rattle.std.proofs.lemmas.List.{append-nil}
+use Rattle.std.proofs.Math.Nat.{add-suc}
+use Rattle.run_io.specs.Pages.{Carries}
+use Rattle.run_io.specs.Texts.{lines_below}
+use Rattle.run_io.specs.Writes.{AppendsFront}
+use Rattle.run_io.proofs.PageFacts.{AppendsFront-carried, Carries-put, Carries-trans}
+
+-- the lines below a place are a front of all
+pub lines_below-front : (line : ℕ → List ℕ) (i m : ℕ) → (rest : List ℕ) × (lines_below line (i + m) ≡ lines_below line i ++ rest)
+lines_below-front line i zero = ([], rw add-zero (sym (append-nil (lines_below line i))))
+lines_below-front line i (suc m) =
+    let more = lines_below-front line i m in
+    (more.0 ++ line (i + m), rw (add-suc i m) (ap (λ (q : List ℕ). q ++ line (i + m)) more.1 ∙ append_assoc (lines_below line i) more.0 (line (i + m))))
+
+-- one line more
+pub Carries-line : (line : ℕ → List ℕ) (i : ℕ) (w w' w'' : Option (List ℕ)) (h h' h'' : List ℕ) → Carries w [] w' h (lines_below line i)
+    → Carries w' h w'' h' [] → h'' ≡ h' ++ line i → Carries w [] w'' h'' (lines_below line (i + 1))
+Carries-line line i w w' w'' h h' h'' c room e =
+    rw add-one (Carries-put w w'' [] h' h'' (lines_below line i) (line i) (Carries-trans w w' w'' [] h h' (lines_below line i) c room) e)
+
+-- where the sink failed behind the lines below i, a front of all lines was written
+pub AppendsFront-lines : (line : ℕ → List ℕ) (i n : ℕ) (w w' w'' : Option (List ℕ)) (h : List ℕ) → i ≤ n → Carries w [] w' h (lines_below line i)
+    → AppendsFront w' w'' h → AppendsFront w w'' (lines_below line n)
+AppendsFront-lines line i n w w' w'' h le c f =
+    let front = lines_below-front line i (n - i) in
+    let same : i + (n - i) ≡ n = omega arith in
+    AppendsFront-carried w w' w'' h (lines_below line i) front.0 (lines_below line n) c f (rw same at front.1)
