@@ -137,6 +137,7 @@ StopsBy-caps words (Caps train top) files name shelf shelf' sink sink' stopped e
   where
     names : name ∷ [] ≡ named_files words
     names = rw (e, n) refl
+
     at : (t : Status) → CausedBy ⊥ (name ∷ []) files shelf shelf' sink sink' t → CausedBy (form_of words ≡ None) (named_files words) files shelf shelf' sink sink' t
     at Memory h = tt
     at Done h = tt
@@ -145,6 +146,7 @@ StopsBy-caps words (Caps train top) files name shelf shelf' sink sink' stopped e
     at WriteFault h = h
     at (Refused file place rule) h = tt
     at (TooLong file) h = tt
+
     by : (r : Result (Unit {0}) Status) → IfErr r (CausedBy ⊥ (name ∷ []) files shelf shelf' sink sink') → IfErr r (CausedBy (form_of words ≡ None) (named_files words) files shelf shelf' sink sink')
     by (Ok u) h = tt
     by (Err t) h = at t h

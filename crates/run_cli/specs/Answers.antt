@@ -6,7 +6,7 @@ use Rattle.line_tables.specs.declared.LineFault.{LineFault}
 use Rattle.run_cli.specs.Statuses.{line_status, status_text}
 use Rattle.run_cli.specs.Texts.{caps_text}
 use Rattle.run_cli.specs.Words.{form_of, word}
-use Rattle.run_cli.specs.declared.files.TheConstants.{MOST_BYTES}
+use Rattle.run_cli.specs.Files.{most_bytes}
 use Rattle.run_cli.specs.declared.status.Status.{Status}
 use Rattle.run_cli.specs.declared.status.Status.TheVariants.{Done, Usage, ReadFault, TooLong}
 use Rattle.run_cli.specs.declared.words.Form.{Form}
@@ -28,7 +28,7 @@ Refuses status s t = Is status (status_text status) s t
 -- a file, by its number among those of a form: it is not there, or has too many bytes, or its bytes answer
 abbrev pub WithFile : ℕ → Option (List ℕ) → (List ℕ → Answer) → Status → List ℕ → Type 0
 WithFile number None next s t = Refuses ReadFault s t
-WithFile number (Some bytes) next s t = ((MOST_BYTES < length bytes) × Refuses (TooLong number) s t) ⊎ ((length bytes ≤ MOST_BYTES) × next bytes s t)
+WithFile number (Some bytes) next s t = ((most_bytes < length bytes) × Refuses (TooLong number) s t) ⊎ ((length bytes ≤ most_bytes) × next bytes s t)
 
 -- a line file, by what it reads as: its fault, or its line answers
 abbrev pub WithLine : Result LineTable LineFault → (LineTable → Answer) → Status → List ℕ → Type 0

@@ -76,3 +76,6 @@ fn finish<K: Sink>(out: &mut K, stopped: Result<(), Status>) -> Status
         Err(Failed) => Status::WriteFault,
     }
 }
+
+#[cfg(test)]
+mod tests;

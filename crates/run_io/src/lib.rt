@@ -97,3 +97,6 @@ pub fn write_whole<K: Sink>(out: &mut K, piece: &[u8]) -> Result<(), Failed>
     }
     Ok(())
 }
+
+#[cfg(test)]
+mod tests;

@@ -10,7 +10,7 @@ loop-done-init g c =
     let h = c.has_headers.ensures in
     record {
       reads = Reads-start (g.T.Table.rule c.args.table.now) (g.T.Table.says c.args.table.now) c.args.bytes.now c.from_reader-reader.result
-      (rw (f, h) at fr.trim ∙ c.new.ensures.trim) (rw (f, h) at fr.has_headers) fr.headers (rw (f, h) at fr.config ∙ c.new.ensures.config) fr.source fr.state c.requires;
+          (rw (f, h) at fr.trim ∙ c.new.ensures.trim) (rw (f, h) at fr.has_headers) fr.headers (rw (f, h) at fr.config ∙ c.new.ensures.config) fr.source fr.state c.requires;
       rule = refl;
     }
 
@@ -36,7 +36,7 @@ loop-done-preserved g c =
     let taken = rw same at (c.in-Ok.ensures.taken inv.rows inv.said) in
     record {
       reads = Reads-more (g.T.Table.rule c.args.table.now) (g.T.Table.says c.loop-done.table) (g.T.Table.says c.take.new.self) c.args.bytes.now c.loop-done.reader
-      c.read_byte_record.new.self c.loop-done.done (fields_of c.read_byte_record.new.row) inv c.in-Ok-true.field-0 c.in-Ok-true.field-0-test
-      (c.in-Ok-true.ensures.reads inv.plain inv.ready) (c.in-Ok-true.ensures.ready inv.plain) taken.0 taken.1;
+          c.read_byte_record.new.self c.loop-done.done (fields_of c.read_byte_record.new.row) inv c.in-Ok-true.field-0 c.in-Ok-true.field-0-test
+          (c.in-Ok-true.ensures.reads inv.plain inv.ready) (c.in-Ok-true.ensures.ready inv.plain) taken.0 taken.1;
       rule = c.in-Ok.ensures.rule ∙ same;
     }

@@ -18,8 +18,8 @@ loop-point-preserved g c =
     let cause = c.in_ok-make_room.ensures.cause in
     record {
       carried = Carries-line (λ i. point_line i (cap_at c.args.line.now.length c.args.train c.args.top c.args.line.now.limits i)) c.loop-point.point
-      (g.K.Sink.written c.args.out.now) (g.K.Sink.written c.loop-point.out) (g.K.Sink.written c.make_room.new.out) c.loop-point.page c.make_room.new.self c.put_point.new.page
-      c.loop-point.invariant.carried c.in_ok-make_room.ensures.ok (rw (c.cap_at-cap.ensures, length_is, c.limits.ensures) at c.put_point.ensures);
+          (g.K.Sink.written c.args.out.now) (g.K.Sink.written c.loop-point.out) (g.K.Sink.written c.make_room.new.out) c.loop-point.page c.make_room.new.self c.put_point.new.page
+          c.loop-point.invariant.carried c.in_ok-make_room.ensures.ok (rw (c.cap_at-cap.ensures, length_is, c.limits.ensures) at c.put_point.ensures);
       later = omega (arith, c.loop-point.invariant.later, cause.later);
     }
 
