@@ -1,5 +1,5 @@
 -- How a run ends, by where its form stopped.
-use Rattle.std.proofs.Common.{◌≡◌, ◌≤◌, ◌<◌, ◌⊎◌, ℕ, List, [], ◌∷◌, ◌++◌, length, take, map, get_or, zero, suc, Option, Some, None, Result, Ok, Err, OnErr, IfSome, IfErr, refl, sym, ap, subst, inl, inr, arith}
+use Rattle.std.proofs.Common.{◌≡◌, ◌≤◌, ◌<◌, ◌⊎◌, ℕ, List, [], ◌∷◌, ◌++◌, length, take, map, get_or, zero, suc, Option, Some, None, Result, Ok, Err, IfSome, IfErr, refl, sym, ap, subst, inl, inr, arith}
 use Rattle.std.proofs.lemmas.List.{append-nil}
 use Rattle.std.proofs.lemmas.Grind.{common_steps}
 use Rattle.std.specs.Io.KnownBytes.{Appends}
@@ -24,14 +24,6 @@ use Rattle.run_cli.specs.declared.words.Form.{Form}
 use Rattle.run_cli.specs.declared.words.Form.TheVariants.{Caps}
 use Rattle.run_cli.specs.declared.status.Status.{Status}
 use Rattle.run_cli.specs.declared.status.Status.TheVariants.{Done, Memory, Usage, ReadFault, WriteFault, Refused, TooLong}
-
-pub OnErr-always : {T E P : Type 0} (r : Result T E) → P → OnErr r P
-OnErr-always (Ok x) p = tt
-OnErr-always (Err e) p = p
-
-pub OnErr-along : {T E P Q : Type 0} (r : Result T E) → (P → Q) → OnErr r P → OnErr r Q
-OnErr-along (Ok x) f h = tt
-OnErr-along (Err e) f h = f h
 
 Rose-after : (before mid now : ℕ) → before ≤ mid → Rose mid now → Rose before now
 Rose-after before mid now h r = omega (arith, h, r)

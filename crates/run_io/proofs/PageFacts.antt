@@ -23,12 +23,24 @@ Carries-put w w' h h' h'' text more c e = record {
 }
 
 -- one carrying after another
-pub Carries-trans : (w w' w'' : Option (List ℕ)) (h h' h'' text : List ℕ) → Carries w h w' h' text → Carries w' h' w'' h'' [] → Carries w h w'' h'' text
-Carries-trans w w' w'' h h' h'' text c d = record {
+pub Carries-then : (w w' w'' : Option (List ℕ)) (h h' h'' text more : List ℕ) → Carries w h w' h' text → Carries w' h' w'' h'' more → Carries w h w'' h'' (text ++ more)
+Carries-then w w' w'' h h' h'' text more c d = record {
   sent = c.sent ++ d.sent;
   gone = Appends-trans w w' w'' c.sent d.sent c.gone d.gone;
-  rest = c.rest ∙ ap (λ (q : List ℕ). c.sent ++ q) (sym (append-nil h') ∙ d.rest) ∙ sym (append_assoc c.sent d.sent h'');
+  rest = sym (append_assoc h text more) ∙ ap (λ (q : List ℕ). q ++ more) c.rest ∙ append_assoc c.sent h' more ∙ ap (λ (q : List ℕ). c.sent ++ q) d.rest ∙ sym (append_assoc c.sent d.sent h'');
 }
+
+-- room made behind a text
+pub Carries-trans : (w w' w'' : Option (List ℕ)) (h h' h'' text : List ℕ) → Carries w h w' h' text → Carries w' h' w'' h'' [] → Carries w h w'' h'' text
+Carries-trans w w' w'' h h' h'' text c d =
+    subst (λ (q : List ℕ). Carries w h w'' h'' q) (append-nil text) (Carries-then w w' w'' h h' h'' text [] c d)
+
+-- where a front of what is held has gone, a front of the text before, of this text, and of more
+pub AppendsFront-behind : (w w' w'' : Option (List ℕ)) (h h' text more all : List ℕ) → Carries w h w' h' text → AppendsFront w' w'' h' → all ≡ text ++ more
+    → AppendsFront w w'' (h ++ all)
+AppendsFront-behind w w' w'' h h' text more all c f e =
+    AppendsFront-after w w' w'' c.sent h' more (h ++ all) c.gone f
+    (ap (λ (q : List ℕ). h ++ q) e ∙ sym (append_assoc h text more) ∙ ap (λ (q : List ℕ). q ++ more) c.rest)
 
 -- where nothing was held at first and the rest has gone too, the whole text was written
 pub Appends-carried : (w w' w'' : Option (List ℕ)) (h' text : List ℕ) → Carries w [] w' h' text → Appends w' w'' h' → Appends w w'' text
@@ -38,3 +50,6 @@ Appends-carried w w' w'' h' text c a = subst (λ (q : List ℕ). Appends w w'' q
 pub AppendsFront-carried : (w w' w'' : Option (List ℕ)) (h' text more all : List ℕ) → Carries w [] w' h' text → AppendsFront w' w'' h' → all ≡ text ++ more → AppendsFront w w'' all
 AppendsFront-carried w w' w'' h' text more all c f e =
     AppendsFront-after w w' w'' c.sent h' more all c.gone f (e ∙ ap (λ (q : List ℕ). q ++ more) c.rest)
+
+pub AppendsFront-carried-all : (w w' w'' : Option (List ℕ)) (h' text : List ℕ) → Carries w [] w' h' text → AppendsFront w' w'' h' → AppendsFront w w'' text
+AppendsFront-carried-all w w' w'' h' text c f = AppendsFront-carried w w' w'' h' text [] text c f (sym (append-nil text))

@@ -1,7 +1,7 @@
 //! Text on its way to a sink, gathered into pieces of about a page.
 
 ghost use Rattle.std.specs.Prelude.{◌≡◌, ◌+◌, ◌≤◌, ◌++◌, [], length, OnOk, OnErr};
-ghost use Rattle.std.specs.Fmt.{decimal};
+ghost use Rattle.std.specs.Fmt.{decimal, signed_decimal};
 ghost use Rattle.std.specs.Io.KnownBytes.{Appends};
 ghost use Rattle.run_io.specs.Causes.{HasCause};
 ghost use Rattle.run_io.specs.Pages.{Carries};
@@ -54,6 +54,15 @@ impl Page {
     pub fn put_number(&mut self, number: u64)
         requires { length self.old + 20 ≤ PAGE }
         ensures text { self.new ≡ self.old ++ decimal number }
+        ensures short { length self.new ≤ length self.old + 20 }
+    {
+        self.put(Buffer::new().format(number).as_bytes());
+    }
+
+    /// Puts a number that may be below 0 in decimal behind the text.
+    pub fn put_signed(&mut self, number: i64)
+        requires { length self.old + 20 ≤ PAGE }
+        ensures text { self.new ≡ self.old ++ signed_decimal number }
         ensures short { length self.new ≤ length self.old + 20 }
     {
         self.put(Buffer::new().format(number).as_bytes());

@@ -1,8 +1,8 @@
 use Rattle.std.proofs.Common.{◌+◌, arith}
+use Rattle.run_io.proofs.ErrFacts.{OnErr-along, OnErr-always}
 use Rattle.run_io.proofs.TextFacts.{AppendsFront-lines, Carries-line}
 use Rattle.run_rules.specs.Caps.{cap_at}
 use Rattle.run_cli.specs.Texts.{point_line}
-use Rattle.run_cli.proofs.EndFacts.{OnErr-along, OnErr-always}
 use Rattle.run_cli.proofs.caps.write_caps.Goals as goal
 
 pub returns-in_err-make_room-clause-failed : goal.returns-in_err-make_room-clause-failed

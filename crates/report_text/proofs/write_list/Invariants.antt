@@ -1,0 +1,12 @@
+use Rattle.std.proofs.Common.{◌≤◌, [], length}
+use Rattle.std.specs.Prelude.{slice_index}
+use Rattle.run_io.specs.Pages.{Carries}
+use Rattle.run_io.specs.Texts.{lines_below}
+use Rattle.report_text.specs.Texts.{point_line}
+use Rattle.report_text.proofs.write_list.Given as goal
+
+abbrev pub invariant-loop-point : goal.invariant-loop-point
+invariant-loop-point g l = record {
+  carried : Carries (g.K.Sink.written l.fn.out) [] (g.K.Sink.written l.out) l.page (lines_below (λ i. point_line i (slice_index l.numbers i)) l.point);
+  later : g.K.Sink.faults l.fn.out ≤ g.K.Sink.faults l.out;
+}

@@ -1,0 +1,21 @@
+-- The texts that are printed, each a function of its values.
+use Rattle.std.specs.Prelude.{ℕ, ◌==◌, if◌then◌else◌, List, ◌++◌, codes, length, map, slice_index, ℤ}
+use Rattle.std.specs.Fmt.{decimal, signed_decimal}
+use Rattle.std.specs.List.{join_with_byte}
+use Rattle.run_io.specs.Texts.{lines_below}
+
+-- a text behind a space, where it isn't the first
+abbrev pub spaced : ℕ → List ℕ → List ℕ
+spaced place text = if place == 0 then text else codes " " ++ text
+
+-- numbers in decimal, one space between, and a line end; 32 is the space
+abbrev pub numbers_text : List ℤ → List ℕ
+numbers_text numbers = join_with_byte 32 (map signed_decimal numbers) ++ codes "\n"
+
+-- a point and its number
+abbrev pub point_line : ℕ → ℕ → List ℕ
+point_line point number = decimal point ++ codes " " ++ decimal number ++ codes "\n"
+
+-- a line for each number of a list by point
+abbrev pub list_text : List ℕ → List ℕ
+list_text numbers = lines_below (λ i. point_line i (slice_index numbers i)) (length numbers)

@@ -1,0 +1,74 @@
+//! The texts that rtime prints. None of these calls takes memory: each text goes out through one page.
+#![tactic(auto)]
+
+ghost use Rattle.std.specs.Prelude.{◌≡◌, ◌≤◌, ◌<◌, ◌+◌, ◌++◌, ◌^◌, if◌then◌else◌, ◌==◌, length, codes, OnOk, OnErr};
+ghost use Rattle.std.specs.Fmt.{signed_decimal};
+ghost use Rattle.std.specs.Io.KnownBytes.{Appends};
+ghost use Rattle.run_io.specs.Causes.{HasCause};
+ghost use Rattle.run_io.specs.Pages.{Carries};
+ghost use Rattle.run_io.specs.Writes.{AppendsFront};
+ghost use Rattle.report_text.specs.Texts.{list_text, numbers_text, point_line, spaced};
+
+use run_io::{Failed, PAGE, Page, Sink};
+
+/// Writes the numbers in decimal, one space between, and a line end.
+pub fn write_numbers<K: Sink>(out: &mut K, numbers: &[i64]) -> Result<(), Failed>
+    ensures ok { OnOk result (Appends (K.written out.old) (K.written out.new) (numbers_text numbers.now)) }
+    ensures failed { OnErr result (AppendsFront (K.written out.old) (K.written out.new) (numbers_text numbers.now)) }
+    ensures cause { HasCause (K.faults out.old) (K.faults out.new) result }
+{
+    let mut page = Page::new();
+    put_numbers(&mut page, out, numbers)?;
+    page.flush(out)
+}
+
+/// Puts the same text behind a page, which is written out where it is full.
+pub fn put_numbers<K: Sink>(page: &mut Page, out: &mut K, numbers: &[i64]) -> Result<(), Failed>
+    ensures ok { OnOk result (Carries (K.written out.old) page.old (K.written out.new) page.new (numbers_text numbers.now)) }
+    ensures failed { OnErr result (AppendsFront (K.written out.old) (K.written out.new) (page.old ++ numbers_text numbers.now)) }
+    ensures cause { HasCause (K.faults out.old) (K.faults out.new) result }
+{
+    for (place, number) in numbers.iter().enumerate() {
+        page.make_room(out, 21)?;
+        put_spaced(page, place, number);
+    }
+    page.make_room(out, 1)?;
+    page.put(b"\n");
+    Ok(())
+}
+
+// Puts a number, behind a space where it isn't the first.
+fn put_spaced(page: &mut Page, place: usize, number: &i64)
+    requires { length page.old + 21 ≤ PAGE }
+    ensures { page.new ≡ page.old ++ spaced place (signed_decimal number.now) }
+{
+    if place > 0 {
+        page.put(b" ");
+    }
+    page.put_signed(*number);
+}
+
+/// Writes a line `POINT NUMBER` for each number of a list by point, from point 0.
+pub fn write_list<K: Sink>(out: &mut K, numbers: &[u32]) -> Result<(), Failed>
+    ensures ok { OnOk result (Appends (K.written out.old) (K.written out.new) (list_text numbers.now)) }
+    ensures failed { OnErr result (AppendsFront (K.written out.old) (K.written out.new) (list_text numbers.now)) }
+    ensures cause { HasCause (K.faults out.old) (K.faults out.new) result }
+{
+    let mut page = Page::new();
+    for (point, number) in numbers.iter().enumerate() {
+        page.make_room(out, 42)?;
+        put_point(&mut page, point as u64, *number);
+    }
+    page.flush(out)
+}
+
+// Puts the line of a point: the point and its number.
+fn put_point(page: &mut Page, point: u64, number: u32)
+    requires { length page.old + 42 ≤ PAGE }
+    ensures { page.new ≡ page.old ++ point_line point number }
+{
+    page.put_number(point);
+    page.put(b" ");
+    page.put_number(number as u64);
+    page.put(b"\n");
+}
