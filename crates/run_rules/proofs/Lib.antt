@@ -1,2 +1,3 @@
 pub mod GridFacts
+pub mod RunFacts
 pub mod SpeedFacts

@@ -1,3 +1,6 @@
 pub mod Caps
 pub mod Grids
+pub mod Laws
+pub mod Runs
 pub mod Speeds
+pub mod Steps

@@ -4,6 +4,7 @@
 
 ghost use Rattle.std.specs.Prelude.{◌≡◌, ◌+◌, ◌≤◌, ◌<◌, ◌^◌, ℕ};
 ghost use Rattle.run_rules.specs.Caps.{binds_at};
+ghost use Rattle.run_rules.specs.Laws.{GreaterKeeps, RunsOrStalls, StallsOnce};
 ghost use Rattle.run_rules.specs.Speeds.{squared};
 
 use unit_rules::Zone;
@@ -24,3 +25,12 @@ pub fn binds_at(length: u32, train: u32, point: u32, zone: Zone) -> bool
 {
     zone.from <= point && point <= length.min(zone.to + train)
 }
+
+/// The laws of runs that follow from the definitions alone, whatever the step rule: the greater of
+/// two lists that keep the rule keeps it too, a train is stalled at one point at most, and at none
+/// where there is a run.
+pub fn laws_of_runs()
+    ensures greater { GreaterKeeps }
+    ensures once { StallsOnce }
+    ensures either { RunsOrStalls }
+{}

@@ -14,6 +14,24 @@ pub use quotients::{div_ceil, div_floor};
 #[derive(Clone, Copy, Debug, PartialEq, Eq)]
 pub struct Memory;
 
+/// How far a train gets.
+#[derive(Clone, Copy, Debug, PartialEq, Eq)]
+pub enum Reach {
+    /// To the end of the line.
+    Whole,
+    /// Point `k` is the first that no train gets to which can still keep the limits and stops ahead.
+    Stalled { k: u32 },
+}
+
+/// The greatest squared speed at one point, in (0.01 km/h)².
+#[derive(Clone, Copy, Debug, PartialEq, Eq)]
+pub struct Bound {
+    /// The point.
+    pub at: u32,
+    /// The greatest squared speed there.
+    pub most: u32,
+}
+
 /// A speed of `kmh` km/h over the metres from point `from` up to point `to` of a line.
 #[derive(Clone, Copy, Debug, PartialEq, Eq)]
 pub struct Zone {

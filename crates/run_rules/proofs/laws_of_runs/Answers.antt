@@ -1,0 +1,11 @@
+use Rattle.run_rules.proofs.RunFacts.{greater_keeps, runs_or_stalls, stalls_once}
+use Rattle.run_rules.proofs.laws_of_runs.Goals as goal
+
+pub returns-clause-greater : goal.returns-clause-greater
+returns-clause-greater c = greater_keeps
+
+pub returns-clause-once : goal.returns-clause-once
+returns-clause-once c = stalls_once
+
+pub returns-clause-either : goal.returns-clause-either
+returns-clause-either c = runs_or_stalls

@@ -1,0 +1,20 @@
+-- What holds of every step rule and all lists of numbers, by the definitions of runs alone.
+use Rattle.std.specs.Prelude.{◌≡◌, ℕ, ◌-◌, ◌<◌, ◌≤◌, max, List, length, slice_index}
+use Rattle.run_rules.specs.Runs.{IsMonotone, IsRun, IsStalled, Keeps, StepRule}
+
+-- m has at each of the points the greater number of q and r
+pub record IsGreaterOf (q r m : List ℕ) (points : ℕ) : Type 0 where
+  pub same_points : length m ≡ points
+  pub greater : (i : ℕ) → i < points → slice_index m i ≡ max (slice_index q i) (slice_index r i)
+
+-- the greater of two lists that keep the rule up to a point keeps it too; so where there is one such list there is a greatest
+abbrev pub GreaterKeeps : Type 0
+GreaterKeeps = (rule : StepRule) (x q r m : List ℕ) (k top : ℕ) → IsMonotone rule (length x - 1) top → ((i : ℕ) → i < length x → slice_index x i ≤ top)
+    → k < length x → Keeps rule x q k → Keeps rule x r k → IsGreaterOf q r m (length x) → Keeps rule x m k
+
+-- a train is stalled at one point at most, and where there is a run at none
+abbrev pub StallsOnce : Type 0
+StallsOnce = (rule : StepRule) (x : List ℕ) (j k : ℕ) → IsStalled rule x j → IsStalled rule x k → j ≡ k
+
+abbrev pub RunsOrStalls : Type 0
+RunsOrStalls = (rule : StepRule) (x q : List ℕ) (k : ℕ) → IsRun rule x q → IsStalled rule x k → ⊥
