@@ -1,0 +1,2 @@
+pub mod CapFacts
+pub mod LeastFacts

@@ -1,0 +1,115 @@
+//! The caps of a train on a line: the greatest squared speed that the limits, the restrictions and
+//! the stops allow at each point.
+#![tactic(auto)]
+
+ghost use Rattle.std.specs.Prelude.{◌≡◌, ◌≤◌, ◌<◌, All, IfOk, slice_index};
+ghost use Rattle.run_rules.specs.Caps.{binding_at, bounds_at, least};
+ghost use Rattle.run_rules.specs.Speeds.{squared};
+ghost use Rattle.unit_rules.specs.Zone.{LiesOn};
+ghost use Rattle.limit_profile.specs.Profile.{IsProfile, cap, caps};
+
+use run_rules::{binds_at, squared};
+use std::alloc::Global;
+use std::marker::Model;
+use unit_rules::{Bound, Memory, Zone};
+
+/// The limits that bind a train on a line.
+#[derive(Drop)]
+pub struct Limits {
+    length: u32,
+    train: u32,
+    top: u32,
+    zones: Vec<Zone>,
+    bounds: Vec<Bound>,
+}
+
+impl Model for Limits {
+    ghost use Rattle.limit_profile.specs.Profile.{IsProfile, Profile};
+
+    ghost Value = { Profile };
+
+    ghost view = { λ l. record { length = l.length; train = l.train; top = l.top; zones = l.zones.items; bounds = l.bounds.items } };
+
+    ghost invariant = { λ l. IsProfile (record { length = l.length; train = l.train; top = l.top; zones = l.zones.items; bounds = l.bounds.items }) };
+}
+
+impl Limits {
+    /// The limits of a line of `length` metres for a train of `train` metres and a top speed of
+    /// `top` km/h: zones bind until the tail has left them, and a bound holds at its one point.
+    pub fn new(
+        alloc: Global,
+        length: u32,
+        train: u32,
+        top: u32,
+        zones: &[Zone],
+        bounds: &[Bound],
+    ) -> Result<Limits, Memory>
+        requires { IsProfile (record { length = length; train = train; top = top; zones = zones.now; bounds = bounds.now }) }
+        ensures { IfOk result (λ l. l ≡ record { length = length; train = train; top = top; zones = zones.now; bounds = bounds.now }) }
+    {
+        let (Ok(zones), Ok(bounds)) = (
+            Vec::from_slice(alloc, zones),
+            Vec::from_slice(alloc, bounds),
+        ) else {
+            return Err(Memory);
+        };
+        Ok(Limits {
+            length,
+            train,
+            top,
+            zones,
+            bounds,
+        })
+    }
+
+    /// The cap at a point, in (0.01 km/h)²: the least of the top speed, of all zones that bind there
+    /// and of the bounds there.
+    pub fn cap(&self, point: u32) -> u32
+        requires { point ≤ self.now.length }
+        ensures cap { result ≡ cap self.now point }
+        ensures listed { result ≡ slice_index (caps self.now) point }
+        ensures most { result ≤ squared self.now.top }
+        ensures kept { IsProfile self.now }
+    {
+        self.least_at(point)
+    }
+
+    // The least of what holds at a point.
+    fn least_at(&self, point: u32) -> u32
+        ensures cap { result ≡ cap self.now point }
+        ensures kept { IsProfile self.now }
+    {
+        let zoned = zone_cap(self.length, self.train, self.top, &self.zones, point);
+        bound_cap(zoned, &self.bounds, point)
+    }
+}
+
+// The least of the top speed and of all zones that bind at a point.
+fn zone_cap(length: u32, train: u32, top: u32, zones: &[Zone], point: u32) -> u32
+    requires short { length ≤ 500000 }
+    requires train { train ≤ 5000 }
+    requires top { top ≤ 500 }
+    requires lie { All (LiesOn length) zones.now }
+    ensures { result ≡ least (squared top) (binding_at length train zones.now point) }
+{
+    let mut least = squared(top);
+    for zone in zones {
+        if binds_at(length, train, point, *zone) {
+            least = least.min(squared(zone.kmh));
+        }
+    }
+    least
+}
+
+// The least of a number and of the bounds at a point.
+fn bound_cap(most: u32, bounds: &[Bound], point: u32) -> u32
+    ensures { result ≡ least most (bounds_at bounds.now point) }
+{
+    let mut least = most;
+    for bound in bounds {
+        if bound.at == point {
+            least = least.min(bound.most);
+        }
+    }
+    least
+}
