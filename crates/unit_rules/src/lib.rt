@@ -6,7 +6,7 @@ mod counter;
 mod numerals;
 
 pub use counter::Steps;
-pub use numerals::{number_in, read_whole, within};
+pub use numerals::{number_in, read_whole, signed_within, within};
 
 /// Memory was wanted and could not be had.
 #[derive(Clone, Copy, Debug, PartialEq, Eq)]
