@@ -1,7 +1,6 @@
-use Rattle.std.proofs.Common.{◌≡◌, ◌≢◌, ◌≤◌, ◌∙◌, All, Contains, IfNone, IfSome, ap, sym, subst, ℕ, Option}
 use Rattle.std.proofs.lemmas.List.Elements.{All-contains}
 use Rattle.std.proofs.lemmas.Option.{IfSome_then}
-use Rattle.line_tables.specs.Points.{StandsOn, find_point}
+use Rattle.line_tables.specs.Points.{StandsOn}
 use Rattle.line_tables.proofs.PointFacts.{find_point-none, find_point-there}
 use Rattle.line_tables.proofs.table.Line.find.Goals as goal
 
