@@ -8,8 +8,9 @@ use Rattle.unit_rules.specs.declared.Zone.{Zone}
 use Rattle.record_rules.specs.Records.{Record}
 use Rattle.record_rules.specs.Faults.{TakesOne}
 use Rattle.record_rules.specs.declared.Stop.{Stop}
+use Rattle.line_tables.specs.declared.table.Slope.{Slope}
 use Rattle.line_tables.specs.Draft.{DraftTable}
-use Rattle.line_tables.specs.LineFile.{draft_of, line_of, rule_after, with_record, zone_of}
+use Rattle.line_tables.specs.LineFile.{draft_of, line_of, point_of, rule_after, slope_of, with_record, zone_of}
 
 first-append : {X : Type 0} (xs : List X) (o : Option X) → slice_get (xs ++ option_to_list o) 0 ≡ option_or (slice_get xs 0) o
 first-append [] None = refl
@@ -26,12 +27,13 @@ filter_map-push {Y = Y} h rows r = filter_map-append h rows (r ∷ []) ∙ ap (�
 first-push : {X Y : Type 0} (h : X → Option Y) (rows : List X) (r : X) → slice_get (filter_map h (rows ++ r ∷ [])) 0 ≡ option_or (slice_get (filter_map h rows) 0) (h r)
 first-push h rows r = rw (filter_map-push h rows r) (first-append (filter_map h rows) (h r))
 
-same_draft : (l m : Option (List ℕ × ℕ)) (z w : List Zone) → l ≡ m → z ≡ w → ◌≡◌ {A = DraftTable} (record { line = l; limits = z }) (record { line = m; limits = w })
-same_draft l m z w e f = rw (e, f) refl
+same_draft : (l m : Option (List ℕ × ℕ)) (s t : List Slope) (z w : List Zone) (p q : List (List ℕ × ℕ)) → l ≡ m → s ≡ t → z ≡ w → p ≡ q
+    → ◌≡◌ {A = DraftTable} (record { line = l; slopes = s; limits = z; points = p }) (record { line = m; slopes = t; limits = w; points = q })
+same_draft l m s t z w p q e f g h = rw (e, f, g, h) refl
 
 -- what records say with one record more
 pub draft_of-push : (rows : List Record) (r : Record) → draft_of (rows ++ r ∷ []) ≡ with_record (draft_of rows) r
-draft_of-push rows r = same_draft _ _ _ _ (first-push line_of rows r) (filter_map-push zone_of rows r)
+draft_of-push rows r = same_draft _ _ _ _ _ _ _ _ (first-push line_of rows r) (filter_map-push slope_of rows r) (filter_map-push zone_of rows r) (filter_map-push point_of rows r)
 
 -- a record taken behind those that a draft says
 pub TakesOne-draft : (d e : DraftTable) (before : List Record) (r : Record) (result : Result (Unit {0}) Stop) → d ≡ draft_of before

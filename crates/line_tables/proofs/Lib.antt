@@ -1,3 +1,5 @@
 pub mod DraftFacts
 pub mod FileFacts
+pub mod PointFacts
+pub mod RuleFacts
 mod Rows

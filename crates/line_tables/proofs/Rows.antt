@@ -1,5 +1,5 @@
 -- The rules of line files at small files, computed from the definitions alone.
-use Rattle.std.proofs.Common.{◌≡◌, Ok, Err, [], ◌∷◌, codes, refl}
+use Rattle.std.proofs.Common.{◌≡◌, Ok, Err, [], ◌∷◌, codes, pos, refl}
 use Rattle.csv.specs.Machine.{next_record}
 use Rattle.csv.specs.Reading.{records_from, strip_bom}
 use Rattle.std.specs.Str.{chars, is_utf8}
@@ -9,26 +9,86 @@ use Rattle.record_rules.specs.Faults.{first_fault}
 use Rattle.line_tables.specs.LineFile.{reading_of}
 use Rattle.line_tables.specs.declared.LineFault.TheVariants.{Bad, Missing}
 
-too_short : reading_of (codes "line,A,1\n") ≡ Err (Bad 1 4)
+no_bytes : reading_of (codes "") ≡ Err Missing
 unfolding next_record records_from strip_bom whole_of is_utf8 chars encode first_fault
-too_short = refl
-
-after_comment : reading_of (codes "# x\nline,A,1\n") ≡ Err (Bad 2 4)
-unfolding next_record records_from strip_bom whole_of is_utf8 chars encode first_fault
-after_comment = refl
-
-padded : reading_of (codes "line,A,10\nlimit,05,9,50\n") ≡ Err (Bad 2 3)
-unfolding next_record records_from strip_bom whole_of is_utf8 chars encode first_fault
-padded = refl
-
-second : reading_of (codes "line,A,10\nline,A,10\n") ≡ Err (Bad 2 6)
-unfolding next_record records_from strip_bom whole_of is_utf8 chars encode first_fault
-second = refl
-
-accepted : reading_of (codes "line,A,10\nlimit,4,8,50\n") ≡ Ok (record { name = codes "A"; length = 10; limits = record { from = 4; to = 8; kmh = 50 } ∷ [] })
-unfolding next_record records_from strip_bom whole_of is_utf8 chars encode first_fault
-accepted = refl
+no_bytes = refl
 
 comment_alone : reading_of (codes "# only") ≡ Err Missing
 unfolding next_record records_from strip_bom whole_of is_utf8 chars encode first_fault
 comment_alone = refl
+
+limit_before_line : reading_of (codes "limit,0,5,50\n") ≡ Err (Bad 1 5)
+unfolding next_record records_from strip_bom whole_of is_utf8 chars encode first_fault
+limit_before_line = refl
+
+line_too_short : reading_of (codes "line,A,1\n") ≡ Err (Bad 1 4)
+unfolding next_record records_from strip_bom whole_of is_utf8 chars encode first_fault
+line_too_short = refl
+
+line_too_long : reading_of (codes "line,A,500001\n") ≡ Err (Bad 1 4)
+unfolding next_record records_from strip_bom whole_of is_utf8 chars encode first_fault
+line_too_long = refl
+
+comment_has_number : reading_of (codes "# x\nline,A,1\n") ≡ Err (Bad 2 4)
+unfolding next_record records_from strip_bom whole_of is_utf8 chars encode first_fault
+comment_has_number = refl
+
+unknown_kind : reading_of (codes "line,A,10\nbridge,1\n") ≡ Err (Bad 2 1)
+unfolding next_record records_from strip_bom whole_of is_utf8 chars encode first_fault
+unknown_kind = refl
+
+point_without_name : reading_of (codes "line,A,10\npoint,5\n") ≡ Err (Bad 2 2)
+unfolding next_record records_from strip_bom whole_of is_utf8 chars encode first_fault
+point_without_name = refl
+
+numeral_padded : reading_of (codes "line,A,10\nlimit,05,9,50\n") ≡ Err (Bad 2 3)
+unfolding next_record records_from strip_bom whole_of is_utf8 chars encode first_fault
+numeral_padded = refl
+
+limit_past_end : reading_of (codes "line,A,10\nlimit,5,11,50\n") ≡ Err (Bad 2 4)
+unfolding next_record records_from strip_bom whole_of is_utf8 chars encode first_fault
+limit_past_end = refl
+
+limit_over_nothing : reading_of (codes "line,A,10\nlimit,5,5,50\n") ≡ Err (Bad 2 5)
+unfolding next_record records_from strip_bom whole_of is_utf8 chars encode first_fault
+limit_over_nothing = refl
+
+limit_at_rest : reading_of (codes "line,A,10\nlimit,0,5,0\n") ≡ Err (Bad 2 4)
+unfolding next_record records_from strip_bom whole_of is_utf8 chars encode first_fault
+limit_at_rest = refl
+
+gradients_overlap : reading_of (codes "line,A,10\ngradient,0,5,10\ngradient,4,8,10\n") ≡ Err (Bad 3 5)
+unfolding next_record records_from strip_bom whole_of is_utf8 chars encode first_fault
+gradients_overlap = refl
+
+name_repeated : reading_of (codes "line,A,10\npoint,1,P\npoint,2,P\n") ≡ Err (Bad 3 6)
+unfolding next_record records_from strip_bom whole_of is_utf8 chars encode first_fault
+name_repeated = refl
+
+line_repeated : reading_of (codes "line,A,10\nline,A,10\n") ≡ Err (Bad 2 6)
+unfolding next_record records_from strip_bom whole_of is_utf8 chars encode first_fault
+line_repeated = refl
+
+first_record_counts : reading_of (codes "line,A,10\npoint,x\nbridge,1\n") ≡ Err (Bad 2 2)
+unfolding next_record records_from strip_bom whole_of is_utf8 chars encode first_fault
+first_record_counts = refl
+
+accepted : reading_of (codes "line,A,10\nlimit,4,8,50\nlimit,0,6,40\npoint,3,P\npoint,3,Q\n") ≡ Ok (record {
+  name = codes "A";
+  length = 10;
+  slopes = [];
+  limits = record { from = 4; to = 8; kmh = 50 } ∷ record { from = 0; to = 6; kmh = 40 } ∷ [];
+  points = (codes "P", 3) ∷ (codes "Q", 3) ∷ [];
+})
+unfolding next_record records_from strip_bom whole_of is_utf8 chars encode first_fault
+accepted = refl
+
+hill : reading_of (codes "line,Hill,1000\ngradient,50,1000,100\n") ≡ Ok (record {
+  name = codes "Hill";
+  length = 1000;
+  slopes = record { from = 50; to = 1000; tenths = pos 100 } ∷ [];
+  limits = [];
+  points = [];
+})
+unfolding next_record records_from strip_bom whole_of is_utf8 chars encode first_fault
+hill = refl

@@ -1,17 +1,24 @@
 -- What contracts see of a line while the records of its file are read.
-use Rattle.std.specs.Prelude.{ℕ, ◌≤◌, ◌≡◌, List, [], Option, All}
+use Rattle.std.specs.Prelude.{ℕ, ◌≡◌, List, [], Option}
 use Rattle.std.specs.Option.{ForNone, ForSome}
-use Rattle.unit_rules.specs.Zone.{LiesOn}
 use Rattle.unit_rules.specs.declared.Zone.{Zone}
+use Rattle.line_tables.specs.declared.table.Slope.{Slope}
+use Rattle.line_tables.specs.Table.{IsLine, LineTable}
 
--- what the records before a record say: the name and the length of the line, and its limits
+-- what the records before a record say: the name and the length of the line, and its slopes, limits and points
 pub record DraftTable : Type 0 where
   pub line : Option (List ℕ × ℕ)
+  pub slopes : List Slope
   pub limits : List Zone
+  pub points : List (List ℕ × ℕ)
 
--- the line's length is in range, and its limits lie on it; where there is no line there is no limit
+-- the line of that name and length, with the slopes, limits and points of a draft
+abbrev pub line_with : DraftTable → List ℕ × ℕ → LineTable
+line_with d l = record { name = l.0; length = l.1; slopes = d.slopes; limits = d.limits; points = d.points }
+
+-- where there is a line it keeps its ranges and orders; where there is none there is nothing else
 pub record IsDraft (d : DraftTable) : Type 0 where
-  pub short : ForSome d.line (λ l. 2 ≤ l.1)
-  pub long : ForSome d.line (λ l. l.1 ≤ 500000)
-  pub none : ForNone d.line (d.limits ≡ [])
-  pub lie : ForSome d.line (λ l. All (LiesOn l.1) d.limits)
+  pub line : ForSome d.line (λ l. IsLine (line_with d l))
+  pub no_slopes : ForNone d.line (d.slopes ≡ [])
+  pub no_limits : ForNone d.line (d.limits ≡ [])
+  pub no_points : ForNone d.line (d.points ≡ [])

@@ -1,37 +1,58 @@
 -- What a line file says: its records, the rules that a record may break, and the line of an accepted file.
-use Rattle.std.specs.Prelude.{ℕ, Bool, false, ◌==◌, ◌&&◌, not, nat_lt, if◌then◌else◌, List, [], ◌++◌, length, codes, Option, Some, None, Result, Ok, Err, is_some, unwrap_or, option_map, option_to_list, slice_get, slice_index}
+use Rattle.std.specs.Prelude.{ℕ, ◌-◌, ℤ, pos, neg_ℤ, Bool, false, ◌==◌, ◌&&◌, not, nat_lt, if◌then◌else◌, List, [], ◌++◌, length, codes, Option, Some, None, Result, Ok, Err, is_some, unwrap_or, option_map, option_to_list, slice_get, slice_index}
 use Rattle.std.specs.List.{filter_map}
 use Rattle.std.specs.Option.{option_or}
 use Rattle.std.specs.Str.{bytes_eq}
-use Rattle.unit_rules.specs.Numeral.{number_in, whole_of}
+use Rattle.unit_rules.specs.Numeral.{number_in, signed_in, whole_of}
 use Rattle.unit_rules.specs.declared.Zone.{Zone}
 use Rattle.record_rules.specs.Faults.{first_fault}
 use Rattle.record_rules.specs.Records.{Record, field, file_records}
 use Rattle.line_tables.specs.declared.LineFault.{LineFault}
 use Rattle.line_tables.specs.declared.LineFault.TheVariants.{Bad, Missing}
-use Rattle.line_tables.specs.declared.draft.Kind.{Kind}
-use Rattle.line_tables.specs.declared.draft.Kind.TheVariants.{Comment, Line, Limit}
+use Rattle.line_tables.specs.declared.kinds.Kind.{Kind}
+use Rattle.line_tables.specs.declared.kinds.Kind.TheVariants.{Comment, Line, Gradient, Limit, Point}
+use Rattle.line_tables.specs.declared.table.Slope.{Slope}
 use Rattle.line_tables.specs.Names.{is_name}
+use Rattle.line_tables.specs.Points.{find_point}
 use Rattle.line_tables.specs.Table.{LineTable}
-use Rattle.line_tables.specs.Draft.{DraftTable}
+use Rattle.line_tables.specs.Draft.{DraftTable, line_with}
 
 -- the kind of record that a first field names; 35 is `#`
 abbrev pub kind_of : List ℕ → Option Kind
 kind_of word =
     if slice_index word 0 == 35 then Some Comment
     else if bytes_eq word (codes "line") then Some Line
+    else if bytes_eq word (codes "gradient") then Some Gradient
     else if bytes_eq word (codes "limit") then Some Limit
+    else if bytes_eq word (codes "point") then Some Point
     else None
 
 -- the name and the length that a record gives, where it is a `line` record
 abbrev pub line_by : Option Kind → Record → Option (List ℕ × ℕ)
 line_by (Some Line) r = option_map (λ n. (field r 1, n)) (number_in 2 500000 (field r 2))
-line_by (Some Comment) r = None
-line_by (Some Limit) r = None
-line_by None r = None
+line_by _ r = None
 
 abbrev pub line_of : Record → Option (List ℕ × ℕ)
 line_of r = line_by (kind_of (field r 0)) r
+
+-- the number of tenths of a per mille that a text is the numeral of
+abbrev pub tenths_of : List ℕ → Option ℤ
+tenths_of text = signed_in (neg_ℤ (pos 1000)) (pos 1000) text
+
+-- the slope of three numbers, where each is one
+abbrev pub slope_from : Option ℕ → Option ℕ → Option ℤ → Option Slope
+slope_from (Some a) (Some b) (Some t) = Some (record { from = a; to = b; tenths = t })
+slope_from (Some a) (Some b) None = None
+slope_from (Some a) None t = None
+slope_from None b t = None
+
+-- the slope that a record gives, where it is a `gradient` record
+abbrev pub slope_by : Option Kind → Record → Option Slope
+slope_by (Some Gradient) r = slope_from (number_in 0 500000 (field r 1)) (number_in 0 500000 (field r 2)) (tenths_of (field r 3))
+slope_by _ r = None
+
+abbrev pub slope_of : Record → Option Slope
+slope_of r = slope_by (kind_of (field r 0)) r
 
 -- the zone of three numbers, where each is one
 abbrev pub zone_from : Option ℕ → Option ℕ → Option ℕ → Option Zone
@@ -43,30 +64,61 @@ zone_from None b w = None
 -- the zone that a record gives, where it is a `limit` record
 abbrev pub zone_by : Option Kind → Record → Option Zone
 zone_by (Some Limit) r = zone_from (number_in 0 500000 (field r 1)) (number_in 0 500000 (field r 2)) (number_in 1 500 (field r 3))
-zone_by (Some Comment) r = None
-zone_by (Some Line) r = None
-zone_by None r = None
+zone_by _ r = None
 
 abbrev pub zone_of : Record → Option Zone
 zone_of r = zone_by (kind_of (field r 0)) r
 
--- what records say: the first `line` record, and each `limit` record in order
+-- the name and the position that a record gives, where it is a `point` record
+abbrev pub point_by : Option Kind → Record → Option (List ℕ × ℕ)
+point_by (Some Point) r = option_map (λ n. (field r 2, n)) (number_in 0 500000 (field r 1))
+point_by _ r = None
+
+abbrev pub point_of : Record → Option (List ℕ × ℕ)
+point_of r = point_by (kind_of (field r 0)) r
+
+-- what records say: the first `line` record, and each `gradient`, `limit` and `point` record in order
 abbrev pub draft_of : List Record → DraftTable
-draft_of before = record { line = slice_get (filter_map line_of before) 0; limits = filter_map zone_of before }
+draft_of before = record {
+  line = slice_get (filter_map line_of before) 0;
+  slopes = filter_map slope_of before;
+  limits = filter_map zone_of before;
+  points = filter_map point_of before;
+}
 
 -- what they say with one record more
 abbrev pub with_record : DraftTable → Record → DraftTable
-with_record d r = record { line = option_or d.line (line_of r); limits = d.limits ++ option_to_list (zone_of r) }
+with_record d r = record {
+  line = option_or d.line (line_of r);
+  slopes = d.slopes ++ option_to_list (slope_of r);
+  limits = d.limits ++ option_to_list (zone_of r);
+  points = d.points ++ option_to_list (point_of r);
+}
 
 -- the greatest place: the line's length, or 500000 where there is no `line` record yet
 abbrev pub last_place : DraftTable → ℕ
 last_place d = unwrap_or (option_map (λ l. l.1) d.line) 500000
+
+-- where the last `gradient` record ends, or 0 where there is none yet
+abbrev pub slopes_end : DraftTable → ℕ
+slopes_end d = unwrap_or (option_map (λ s. s.to) (slice_get d.slopes (length d.slopes - 1))) 0
 
 abbrev pub is_numeral : List ℕ → Bool
 is_numeral text = is_some (whole_of text)
 
 abbrev pub is_in : ℕ → ℕ → List ℕ → Bool
 is_in low high text = is_some (number_in low high text)
+
+-- whether the first number is there and below the second
+abbrev pub is_ordered : Option ℕ → Option ℕ → Bool
+is_ordered (Some a) (Some b) = nat_lt a b
+is_ordered (Some a) None = false
+is_ordered None b = false
+
+-- whether the number is there and not below that one
+abbrev pub is_from : ℕ → Option ℕ → Bool
+is_from least (Some a) = not (nat_lt a least)
+is_from least None = false
 
 -- the least rule that a `line` record breaks: 2 its fields, 3 a name and a numeral, 4 the range, 6 a second one
 abbrev pub line_rule : DraftTable → Record → Option ℕ
@@ -77,11 +129,15 @@ line_rule d r =
     else if is_some d.line then Some 6
     else None
 
--- whether a limit begins before it ends
-abbrev pub is_ordered : Option ℕ → Option ℕ → Bool
-is_ordered (Some a) (Some b) = nat_lt a b
-is_ordered (Some a) None = false
-is_ordered None b = false
+-- the least rule that a `gradient` record breaks: 2 its fields, 3 numerals, 4 the ranges, 5 no `line` before it, the
+-- order of its ends, or a beginning before the end of the `gradient` record before it
+abbrev pub gradient_rule : DraftTable → Record → Option ℕ
+gradient_rule d r =
+    if not (length r == 4) then Some 2
+    else if not (is_numeral (field r 1) && is_numeral (field r 2) && is_numeral (field r 3)) then Some 3
+    else if not (is_in 0 (last_place d) (field r 1) && is_in 0 (last_place d) (field r 2) && is_some (tenths_of (field r 3))) then Some 4
+    else if not (is_some d.line && (is_ordered (number_in 0 500000 (field r 1)) (number_in 0 500000 (field r 2)) && is_from (slopes_end d) (number_in 0 500000 (field r 1)))) then Some 5
+    else None
 
 -- the least rule that a `limit` record breaks: 2 its fields, 3 numerals, 4 the ranges, 5 no `line` before it or the order of its ends
 abbrev pub limit_rule : DraftTable → Record → Option ℕ
@@ -92,12 +148,25 @@ limit_rule d r =
     else if not (is_some d.line && is_ordered (number_in 0 500000 (field r 1)) (number_in 0 500000 (field r 2))) then Some 5
     else None
 
+-- the least rule that a `point` record breaks: 2 its fields, 3 a numeral and a name, 4 the range, 5 no `line` before it,
+-- 6 a name that is there
+abbrev pub point_rule : DraftTable → Record → Option ℕ
+point_rule d r =
+    if not (length r == 3) then Some 2
+    else if not (is_numeral (field r 1) && is_name (field r 2)) then Some 3
+    else if not (is_in 0 (last_place d) (field r 1)) then Some 4
+    else if not (is_some d.line) then Some 5
+    else if is_some (find_point (field r 2) d.points) then Some 6
+    else None
+
 -- by the kind of record: 1 none, and a comment breaks no rule
 abbrev pub rule_by : Option Kind → DraftTable → Record → Option ℕ
 rule_by None d r = Some 1
 rule_by (Some Comment) d r = None
 rule_by (Some Line) d r = line_rule d r
+rule_by (Some Gradient) d r = gradient_rule d r
 rule_by (Some Limit) d r = limit_rule d r
+rule_by (Some Point) d r = point_rule d r
 
 -- the least rule that a record breaks after the records before it
 abbrev pub rule_after : DraftTable → Record → Option ℕ
@@ -107,8 +176,9 @@ rule_after d r = rule_by (kind_of (field r 0)) d r
 abbrev pub file_fault : List ℕ → Option (ℕ × ℕ)
 file_fault bytes = first_fault (λ before r. rule_after (draft_of before) r) [] (file_records bytes)
 
+-- the line, if there was a record of it
 abbrev pub table_of : DraftTable → Option LineTable
-table_of d = option_map (λ l. record { name = l.0; length = l.1; limits = d.limits }) d.line
+table_of d = option_map (line_with d) d.line
 
 abbrev pub reading_by : Option (ℕ × ℕ) → Option LineTable → Result LineTable LineFault
 reading_by (Some f) table = Err (Bad f.0 f.1)

@@ -1,33 +1,30 @@
 //! A line while the records of its file are read.
 
-ghost use Rattle.std.specs.Prelude.{◌≡◌, IsSome, Some, None, [], IfErr, OnOk, IfOk};
+ghost use Rattle.std.specs.Prelude.{◌≡◌, ◌≤◌, Some, []};
 ghost use Rattle.csv.specs.Records.{fields_of};
 ghost use Rattle.record_rules.specs.Faults.{TakesOne};
 ghost use Rattle.record_rules.specs.Records.{field};
-ghost use Rattle.unit_rules.specs.Zone.{LiesOn};
-ghost use Rattle.line_tables.specs.LineFile.{draft_of, kind_of, last_place, limit_rule, line_rule, rule_after, table_of, with_record, zone_of};
+ghost use Rattle.line_tables.specs.LineFile.{draft_of, gradient_rule, kind_of, last_place, limit_rule, line_rule, point_rule, rule_after, slopes_end, table_of, with_record};
 
-use crate::names::is_name;
-use crate::{Line, Name};
+mod rules;
+
+use crate::kinds::{Kind, kind_of};
+use crate::points::Points;
+use crate::{Line, Name, Slope};
 use csv::ByteRecord;
 use record_rules::{Stop, Table, field};
 use std::alloc::Global;
 use std::marker::Model;
-use unit_rules::{Zone, number_in, read_whole, within};
+use unit_rules::Zone;
 
-// The kinds of records.
-#[derive(Clone, Copy, PartialEq, Eq)]
-enum Kind {
-    Comment,
-    Line,
-    Limit,
-}
-
-// What the records so far say: the name and the length of the line, and its limits.
+// What the records so far say: the name and the length of the line, and its slopes, limits and
+// points.
 #[derive(Drop)]
 pub(crate) struct Draft {
     line: Option<(Name, u32)>,
+    slopes: Vec<Slope>,
     limits: Vec<Zone>,
+    points: Points,
 }
 
 impl Model for Draft {
@@ -35,9 +32,9 @@ impl Model for Draft {
 
     ghost Value = { DraftTable };
 
-    ghost view = { λ d. record { line = d.line; limits = d.limits.items } };
+    ghost view = { λ d. record { line = d.line; slopes = d.slopes.items; limits = d.limits.items; points = d.points } };
 
-    ghost invariant = { λ d. IsDraft (record { line = d.line; limits = d.limits.items }) };
+    ghost invariant = { λ d. IsDraft (record { line = d.line; slopes = d.slopes.items; limits = d.limits.items; points = d.points }) };
 }
 
 impl Draft {
@@ -46,13 +43,16 @@ impl Draft {
     {
         Draft {
             line: None,
+            slopes: Vec::new(alloc),
             limits: Vec::new(alloc),
+            points: Points::new(alloc),
         }
     }
 
     // The greatest place of the line.
     fn last_place(&self) -> u32
-        ensures { result ≡ last_place self.now }
+        ensures place { result ≡ last_place self.now }
+        ensures most { result ≤ 500000 }
     {
         match &self.line {
             Some(line) => line.1,
@@ -60,75 +60,71 @@ impl Draft {
         }
     }
 
+    // The place at which the slopes so far end.
+    fn slopes_end(&self) -> u32
+        ensures { result ≡ slopes_end self.now }
+    {
+        match self.slopes.last() {
+            Some(slope) => slope.to,
+            None => 0,
+        }
+    }
+
     fn take_line(&mut self, alloc: Global, row: &ByteRecord) -> Result<(), Stop>
         requires { kind_of (field (fields_of row.now) 0) ≡ Some Kind.Line }
         ensures { TakesOne (line_rule self.old (fields_of row.now)) (self.new ≡ with_record self.old (fields_of row.now)) result }
     {
-        if row.len() != 3 {
-            return Err(Stop::Broken { rule: 2 });
-        }
-        let text = field(row, 1);
-        if !is_name(text) {
-            return Err(Stop::Broken { rule: 3 });
-        }
-        let Some(length) = read_whole(field(row, 2)) else {
-            return Err(Stop::Broken { rule: 3 });
+        let length = match self.read_length(row) {
+            Ok(length) => length,
+            Err(rule) => return Err(Stop::Broken { rule }),
         };
-        let Some(length) = within(2, 500_000, length) else {
-            return Err(Stop::Broken { rule: 4 });
-        };
-        if self.line.is_some() {
-            return Err(Stop::Broken { rule: 6 });
-        }
-        let Ok(bytes) = Vec::from_slice(alloc, text) else {
+        let Ok(name) = Vec::from_slice(alloc, field(row, 1)) else {
             return Err(Stop::Memory);
         };
-        self.line = Some((Name::new(bytes), length));
+        self.line = Some((Name::new(name), length));
         Ok(())
     }
 
-    // The zone of a `limit` record, or the least rule that the record breaks.
-    fn read_limit(&self, row: &ByteRecord) -> Result<Zone, u32>
-        requires { kind_of (field (fields_of row.now) 0) ≡ Some Kind.Limit }
-        ensures rule { IfErr result (λ rule. limit_rule self.now (fields_of row.now) ≡ Some rule) }
-        ensures ok { OnOk result (limit_rule self.now (fields_of row.now) ≡ None) }
-        ensures zone { IfOk result (λ z. zone_of (fields_of row.now) ≡ Some z) }
-        ensures lies { IfOk result (LiesOn (last_place self.now)) }
-        ensures line { OnOk result (IsSome self.now.line) }
+    fn take_gradient(&mut self, row: &ByteRecord) -> Result<(), Stop>
+        requires { kind_of (field (fields_of row.now) 0) ≡ Some Kind.Gradient }
+        ensures { TakesOne (gradient_rule self.old (fields_of row.now)) (self.new ≡ with_record self.old (fields_of row.now)) result }
     {
-        if row.len() != 4 {
-            return Err(2);
-        }
-        let (Some(from), Some(to), Some(kmh)) = (
-            read_whole(field(row, 1)),
-            read_whole(field(row, 2)),
-            read_whole(field(row, 3)),
-        ) else {
-            return Err(3);
+        let slope = match self.read_slope(row) {
+            Ok(slope) => slope,
+            Err(rule) => return Err(Stop::Broken { rule }),
         };
-        let last = self.last_place();
-        let (Some(from), Some(to), Some(kmh)) = (
-            within(0, last, from),
-            within(0, last, to),
-            within(1, 500, kmh),
-        ) else {
-            return Err(4);
-        };
-        if self.line.is_none() || from >= to {
-            return Err(5);
+        match self.slopes.push(slope) {
+            Ok(()) => Ok(()),
+            Err(_) => Err(Stop::Memory),
         }
-        Ok(Zone { from, to, kmh })
     }
 
     fn take_limit(&mut self, row: &ByteRecord) -> Result<(), Stop>
         requires { kind_of (field (fields_of row.now) 0) ≡ Some Kind.Limit }
         ensures { TakesOne (limit_rule self.old (fields_of row.now)) (self.new ≡ with_record self.old (fields_of row.now)) result }
     {
-        let zone = match self.read_limit(row) {
+        let zone = match self.read_zone(row) {
             Ok(zone) => zone,
             Err(rule) => return Err(Stop::Broken { rule }),
         };
         match self.limits.push(zone) {
+            Ok(()) => Ok(()),
+            Err(_) => Err(Stop::Memory),
+        }
+    }
+
+    fn take_point(&mut self, alloc: Global, row: &ByteRecord) -> Result<(), Stop>
+        requires { kind_of (field (fields_of row.now) 0) ≡ Some Kind.Point }
+        ensures { TakesOne (point_rule self.old (fields_of row.now)) (self.new ≡ with_record self.old (fields_of row.now)) result }
+    {
+        let position = match self.read_position(row) {
+            Ok(position) => position,
+            Err(rule) => return Err(Stop::Broken { rule }),
+        };
+        let Ok(name) = Vec::from_slice(alloc, field(row, 2)) else {
+            return Err(Stop::Memory);
+        };
+        match self.points.add(name, position) {
             Ok(()) => Ok(()),
             Err(_) => Err(Stop::Memory),
         }
@@ -142,7 +138,9 @@ impl Draft {
             None => Err(Stop::Broken { rule: 1 }),
             Some(Kind::Comment) => Ok(()),
             Some(Kind::Line) => self.take_line(alloc, row),
+            Some(Kind::Gradient) => self.take_gradient(row),
             Some(Kind::Limit) => self.take_limit(row),
+            Some(Kind::Point) => self.take_point(alloc, row),
         }
     }
 
@@ -150,9 +148,14 @@ impl Draft {
     pub(crate) fn finish(self) -> Option<Line>
         ensures { result ≡ table_of self }
     {
-        let Draft { line, limits } = self;
+        let Draft {
+            line,
+            slopes,
+            limits,
+            points,
+        } = self;
         match line {
-            Some((name, length)) => Some(Line::new(name, length, limits)),
+            Some((name, length)) => Some(Line::new(name, length, slopes, limits, points)),
             None => None,
         }
     }
@@ -165,20 +168,5 @@ impl Table for Draft {
 
     fn take(&mut self, alloc: Global, row: &ByteRecord) -> Result<(), Stop> {
         self.take_record(alloc, row)
-    }
-}
-
-// The kind of record that a first field names.
-fn kind_of(word: &[u8]) -> Option<Kind>
-    ensures { result ≡ kind_of word.now }
-{
-    if !word.is_empty() && word[0] == b'#' {
-        Some(Kind::Comment)
-    } else if word == b"line".as_slice() {
-        Some(Kind::Line)
-    } else if word == b"limit".as_slice() {
-        Some(Kind::Limit)
-    } else {
-        None
     }
 }

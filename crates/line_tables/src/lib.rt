@@ -8,14 +8,18 @@ ghost use Rattle.line_tables.specs.LineFile.{reading_of};
 ghost use Rattle.line_tables.specs.Faults.{fault_of};
 
 mod draft;
+mod kinds;
 mod names;
+mod points;
 mod table;
+#[cfg(test)]
+mod tests;
 
 use crate::draft::Draft;
 pub use names::Name;
 use record_rules::{RecordFault, read_records};
 use std::alloc::Global;
-pub use table::Line;
+pub use table::{Line, Slope};
 use thiserror::Error;
 
 /// Why a line file is refused.

@@ -1,5 +1,5 @@
 -- Canonical numerals: `0`, or digits without a zero in front, after a minus where the number is below 0.
-use Rattle.std.specs.Prelude.{ℕ, ◌-◌, ◌^◌, Bool, ◌==◌, ◌&&◌, ◌||◌, not, nat_lt, nat_le, if◌then◌else◌, List, drop, slice_index, length, Option, Some, None, option_and_then, ℤ, pos, negsuc}
+use Rattle.std.specs.Prelude.{ℕ, ◌-◌, ◌^◌, Bool, ◌==◌, ◌&&◌, ◌||◌, not, nat_lt, nat_le, if◌then◌else◌, List, drop, slice_index, length, Option, Some, None, option_and_then, ℤ, pos, negsuc, int_le}
 use Rattle.std.specs.Str.{all_ascii_digits}
 use Rattle.std.specs.Str.Parse.{digits_value}
 
@@ -31,3 +31,11 @@ within low high (negsuc n) = None
 -- the number from low to high that a text is the numeral of
 abbrev pub number_in : ℕ → ℕ → List ℕ → Option ℕ
 number_in low high text = option_and_then (within low high) (whole_of text)
+
+-- a signed number, where it is from low to high
+abbrev pub signed_within : ℤ → ℤ → ℤ → Option ℤ
+signed_within low high z = if int_le low z && int_le z high then Some z else None
+
+-- the signed number from low to high that a text is the numeral of
+abbrev pub signed_in : ℤ → ℤ → List ℕ → Option ℤ
+signed_in low high text = option_and_then (signed_within low high) (whole_of text)

@@ -7,7 +7,7 @@ mod numerals;
 mod quotients;
 
 pub use counter::Steps;
-pub use numerals::{number_in, read_whole, within};
+pub use numerals::{number_in, read_whole, signed_within, within};
 pub use quotients::{div_ceil, div_floor};
 
 /// Memory was wanted and could not be had.

@@ -1,10 +1,10 @@
 //! Canonical numerals: `0`, or digits without a zero in front, after a minus where the number is
 //! below 0.
 
-ghost use Rattle.std.specs.Prelude.{IsTrue, ◌↔◌, slice_index, ◌-◌, pos, negsuc, ◌⊎◌, ◌≤◌, ◌≡◌, ◌≢◌, ℕ, ◌+◌, ◌^◌, ◌<◌, ℤ, IfSome, IfNone, FitsSigned};
+ghost use Rattle.std.specs.Prelude.{IsTrue, ◌↔◌, slice_index, ◌-◌, pos, negsuc, ◌⊎◌, ◌≤◌, ◌≤ℤ◌, ◌≡◌, ◌≢◌, ℕ, ◌+◌, ◌^◌, ◌<◌, ℤ, IfSome, IfNone, FitsSigned};
 ghost use Rattle.std.specs.Fmt.{decimal, signed_decimal};
 ghost use Rattle.std.specs.Int.{w64};
-ghost use Rattle.unit_rules.specs.Numeral.{number_in, whole_of, within};
+ghost use Rattle.unit_rules.specs.Numeral.{number_in, signed_within, whole_of, within};
 
 /// The number that the text is the canonical numeral of, if it is one of an `i64`.
 pub fn read_whole(text: &[u8]) -> Option<i64>
@@ -21,6 +21,17 @@ pub fn within(low: u32, high: u32, number: i64) -> Option<u32>
     ensures bounds { IfSome result (λ n. (low ≤ n) × (n ≤ high)) }
 {
     match u32::try_from(number) {
+        Ok(number) if low <= number && number <= high => Some(number),
+        _ => None,
+    }
+}
+
+/// The signed number, where it is from `low` to `high`.
+pub fn signed_within(low: i32, high: i32, number: i64) -> Option<i32>
+    ensures value { result ≡ signed_within low high number }
+    ensures bounds { IfSome result (λ z. (low ≤ℤ z) × (z ≤ℤ high)) }
+{
+    match i32::try_from(number) {
         Ok(number) if low <= number && number <= high => Some(number),
         _ => None,
     }

@@ -1,0 +1,7 @@
+use Rattle.std.proofs.Common.{◌∙◌, ap, map}
+use Rattle.line_tables.specs.Points.{point_view}
+use Rattle.line_tables.proofs.PointFacts.{points-insert}
+use Rattle.line_tables.proofs.points.Points.add.Goals as goal
+
+pub returns : goal.returns
+returns c = rw (← c.self.view_is) (ap (map point_view) c.in_ok-insert.ensures.entries ∙ points-insert c.self.inside.positions c.args.name c.args.at (rw (← c.self.view_is) at c.requires))
