@@ -1,0 +1,2 @@
+pub mod Gradients
+pub mod Windows

@@ -1,0 +1,104 @@
+//! The gradient under a train: its mean over the train's length, and the pull that it makes.
+#![tactic(auto)]
+
+ghost use Rattle.std.specs.Prelude.{◌≡◌, ◌*◌, ◌-◌, ◌≤◌, ℕ, pos, neg_ℤ, ◌≤ℤ◌, All, IfOk};
+ghost use Rattle.run_rules.specs.Steps.{IsPull};
+ghost use Rattle.train_mean.specs.Gradients.{gradient_at, pull_of, pulls_of};
+ghost use Rattle.train_mean.specs.Windows.{AreSlopes, IsAhead, TellsFrom, gradient_left};
+
+use line_tables::{Line, Slope};
+use std::alloc::Global;
+use unit_rules::Memory;
+
+/// The pull at each cell of a line on a train of `mass` kg and `train` metres whose head is there, in
+/// the units of push: `ceil(mass·S·158922/(625·train))`, with `S` the sum of the gradients of the
+/// cells under the train in tenths of a per mille. It is the weight's part along the mean gradient,
+/// with g = 9.81 m/s².
+pub fn pulls(alloc: Global, line: &Line, mass: u32, train: u32) -> Result<Vec<i64>, Memory>
+    requires mass { mass ≤ 20000000 }
+    requires train_least { 1 ≤ train }
+    requires train_most { train ≤ 5000 }
+    ensures pulls { IfOk result (λ pulls. pulls.items ≡ pulls_of line.now.slopes line.now.length mass train) }
+    ensures small { IfOk result (λ pulls. All IsPull pulls.items) }
+{
+    let length = line.length();
+    let (mut head, mut tail, mut sum) = (line.slopes(), line.slopes(), 0);
+    let mut pulls = Vec::new(alloc);
+    for cell in 0..length {
+        head = skip_passed(head, cell);
+        let (left, behind) = leave(tail, train, cell);
+        tail = left;
+        sum = sum + gradient_in(head, cell) as i64 - behind as i64;
+        if pulls.push(pull(mass, train, sum)).is_err() {
+            return Err(Memory);
+        }
+    }
+    Ok(pulls)
+}
+
+// The slopes without those that end at a cell or before it.
+fn skip_passed(slopes: &[Slope], cell: u32) -> &[Slope]
+    requires { AreSlopes slopes.now }
+    ensures tells { TellsFrom cell slopes.now result.now }
+    ensures slopes { AreSlopes result.now }
+    ensures ahead { IsAhead cell result.now }
+{
+    let mut left = slopes;
+    while let [first, rest @ ..] = left {
+        if first.to > cell {
+            break;
+        }
+        left = rest;
+    }
+    left
+}
+
+// The gradient at a cell, by the slopes that end after it.
+fn gradient_in(slopes: &[Slope], cell: u32) -> i32
+    requires slopes { AreSlopes slopes.now }
+    requires ahead { IsAhead cell slopes.now }
+    ensures gradient { result ≡ gradient_at slopes.now cell }
+    ensures least { neg_ℤ (pos 1000) ≤ℤ result }
+    ensures most { result ≤ℤ pos 1000 }
+{
+    match slopes.first() {
+        Some(first) if first.from <= cell => first.tenths,
+        _ => 0,
+    }
+}
+
+// The gradient of the cell that a train's tail leaves as its head enters a cell, and 0 where it
+// leaves none, with the slopes that are left for the next.
+fn leave<'a>(slopes: &'a [Slope], train: u32, cell: u32) -> (&'a [Slope], i32)
+    requires { AreSlopes slopes.now }
+    ensures gradient { result.1 ≡ gradient_left slopes.now train cell }
+    ensures least { neg_ℤ (pos 1000) ≤ℤ result.1 }
+    ensures most { result.1 ≤ℤ pos 1000 }
+    ensures tells { TellsFrom (cell - train) slopes.now result.0.now }
+    ensures slopes { AreSlopes result.0.now }
+{
+    if cell < train {
+        return (slopes, 0);
+    }
+    let left = skip_passed(slopes, cell - train);
+    (left, gradient_in(left, cell - train))
+}
+
+// The pull of a sum of gradients under a train.
+fn pull(mass: u32, train: u32, sum: i64) -> i64
+    requires mass { mass ≤ 20000000 }
+    requires train_least { 1 ≤ train }
+    requires train_most { train ≤ 5000 }
+    requires least { neg_ℤ (pos (1000 * train)) ≤ℤ sum }
+    requires most { sum ≤ℤ pos (1000 * train) }
+    ensures pull { result ≡ pull_of mass train sum }
+    ensures small { IsPull result }
+{
+    let size = mass as u64 * sum.unsigned_abs() * 158_922;
+    let divisor = 625 * train as u64;
+    if sum < 0 {
+        -((size / divisor) as i64)
+    } else {
+        size.div_ceil(divisor) as i64
+    }
+}
