@@ -1,1 +1,3 @@
 pub mod GradientFacts
+pub mod PullFacts
+pub mod WindowFacts

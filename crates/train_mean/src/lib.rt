@@ -1,7 +1,7 @@
 //! The gradient under a train: its mean over the train's length, and the pull that it makes.
 #![tactic(auto)]
 
-ghost use Rattle.std.specs.Prelude.{◌≡◌, ◌*◌, ◌-◌, ◌≤◌, ℕ, pos, neg_ℤ, ◌≤ℤ◌, All, IfOk};
+ghost use Rattle.std.specs.Prelude.{◌≡◌, ◌*◌, ◌-◌, ◌≤◌, ℕ, pos, neg_ℤ, ◌≤ℤ◌, ◌+ℤ◌, ◌-ℤ◌, All, IfOk};
 ghost use Rattle.run_rules.specs.Steps.{IsPull};
 ghost use Rattle.train_mean.specs.Gradients.{gradient_at, pull_of, pulls_of};
 ghost use Rattle.train_mean.specs.Windows.{AreSlopes, IsAhead, TellsFrom, gradient_left};
@@ -28,7 +28,7 @@ pub fn pulls(alloc: Global, line: &Line, mass: u32, train: u32) -> Result<Vec<i6
         head = skip_passed(head, cell);
         let (left, behind) = leave(tail, train, cell);
         tail = left;
-        sum = sum + gradient_in(head, cell) as i64 - behind as i64;
+        sum = moved_sum(sum, gradient_in(head, cell), behind);
         if pulls.push(pull(mass, train, sum)).is_err() {
             return Err(Memory);
         }
@@ -62,8 +62,8 @@ fn gradient_in(slopes: &[Slope], cell: u32) -> i32
     ensures most { result ≤ℤ pos 1000 }
 {
     match slopes.first() {
-        Some(first) if first.from <= cell => first.tenths,
-        _ => 0,
+        Some(first) => { if first.from <= cell { first.tenths } else { 0 } }
+        None => 0,
     }
 }
 
@@ -82,6 +82,21 @@ fn leave<'a>(slopes: &'a [Slope], train: u32, cell: u32) -> (&'a [Slope], i32)
     }
     let left = skip_passed(slopes, cell - train);
     (left, gradient_in(left, cell - train))
+}
+
+// The sum of the gradients under a train, as its head enters a cell and its tail leaves one.
+fn moved_sum(sum: i64, entered: i32, left: i32) -> i64
+    requires least { neg_ℤ (pos 5000000) ≤ℤ sum }
+    requires most { sum ≤ℤ pos 5000000 }
+    requires entered_least { neg_ℤ (pos 1000) ≤ℤ entered }
+    requires entered_most { entered ≤ℤ pos 1000 }
+    requires left_least { neg_ℤ (pos 1000) ≤ℤ left }
+    requires left_most { left ≤ℤ pos 1000 }
+    ensures sum { result ≡ (sum +ℤ entered) -ℤ left }
+    ensures least { neg_ℤ (pos 5002000) ≤ℤ result }
+    ensures most { result ≤ℤ pos 5002000 }
+{
+    sum + entered as i64 - left as i64
 }
 
 // The pull of a sum of gradients under a train.

@@ -1,6 +1,6 @@
 -- How quotients rounded down compare.
-use Rattle.std.proofs.Common.{◌≡◌, ℕ, suc, ◌+◌, ◌-◌, ◌*◌, ◌%◌, ◌<◌, ◌≤◌, ℤ, pos, negsuc, ◌≤ℤ◌, ◌<ℤ◌, ◌+ℤ◌, ◌-ℤ◌, ◌*ℤ◌, arith, refl, ap, mod-lt, div-add-mod', div-le_self, neg_ℤ, unsigned_abs, SFits, ◌∙◌, ◌^◌, mul-le-mul}
-use Rattle.std.specs.Int.{int_div_euclid}
+use Rattle.std.proofs.Common.{◌≡◌, ℕ, zero, suc, min, ◌+◌, ◌-◌, ◌*◌, ◌%◌, ◌<◌, ◌≤◌, ℤ, pos, negsuc, ◌≤ℤ◌, ◌<ℤ◌, ◌+ℤ◌, ◌-ℤ◌, ◌*ℤ◌, arith, refl, ap, mod-lt, div-add-mod', div-le_self, neg_ℤ, unsigned_abs, SFits, ◌∙◌, ◌^◌, mul-le-mul}
+use Rattle.std.specs.Int.{div_ceil, int_div_euclid}
 use mir.Syntax.{w128}
 use Rattle.std.proofs.Math.Nat.{zero-div}
 use Rattle.std.proofs.lemmas.Int.{ints, by_lt_z}
@@ -132,3 +132,40 @@ floor_div-part_most z part all m h s l = let f = floor_div-at_most (z *ℤ pos p
 
 pub floor_div-part_least : (z : ℤ) (part all m : ℕ) → part ≤ all → 0 < all → neg_ℤ (pos m) ≤ℤ z → neg_ℤ (pos m) ≤ℤ floor_div (z *ℤ pos part) all
 floor_div-part_least z part all m h s l = let f = floor_div-at_most (pos 0) (z *ℤ pos part) all m s (times_least z part all m h l) in let e = floor_div-zero all in omega (arith, ints)
+
+-- a quotient with a rest below the divisor is the one rounded down
+pub floor_div-rest : (a q : ℤ) (d rest : ℕ) → 0 < d → LeavesRest a d q rest → floor_div a d ≡ q
+floor_div-rest a q d rest h f = let g = floor_rest a d h in floor_unique a (floor_div a d) q d g.0 rest g.1 f
+
+-- what the quotient of whole numbers, rounded up, is too much
+ceil_rest : (n d : ℕ) → 0 < d → (rest : ℕ) × (rest < d) × (div_ceil n d * d ≡ n + rest)
+ceil_rest n d h = by (n % d) refl
+  where
+    by : (r : ℕ) → n % d ≡ r → (rest : ℕ) × (rest < d) × (div_ceil n d * d ≡ n + rest)
+    by zero e = let whole = div-add-mod' n d in (0, h, rw e (omega (arith, whole, e)))
+    by (suc k) e =
+        let whole = div-add-mod' n d in
+        let small = mod-lt n h in
+        let one : min 1 (suc k) ≡ 1 = omega arith in
+        (d - suc k, omega (arith, small, e), rw (e, one) (omega (arith, whole, e, small)))
+
+up-neg_ℤ : (n : ℕ) → up (neg_ℤ (pos n)) ≡ 0
+up-neg_ℤ zero = refl
+up-neg_ℤ (suc n) = refl
+
+down-neg_ℤ : (n : ℕ) → down (neg_ℤ (pos n)) ≡ n
+down-neg_ℤ zero = refl
+down-neg_ℤ (suc n) = refl
+
+pub neg_ℤ-neg_ℤ : (n : ℕ) → neg_ℤ (neg_ℤ (pos n)) ≡ pos n
+neg_ℤ-neg_ℤ zero = refl
+neg_ℤ-neg_ℤ (suc n) = refl
+
+-- of a number that is not below 0 the quotient rounded up is that of whole numbers
+pub ceil_div-pos : (n d : ℕ) → 0 < d → ceil_div (pos n) d ≡ pos (div_ceil n d)
+ceil_div-pos n d h =
+    let r = ceil_rest n d h in
+    let turned : floor_div (neg_ℤ (pos n)) d ≡ neg_ℤ (pos (div_ceil n d)) =
+    floor_div-rest (neg_ℤ (pos n)) (neg_ℤ (pos (div_ceil n d))) d r.0 h
+    (record { small = r.1; whole = rw (up-neg_ℤ n, down-neg_ℤ n, up-neg_ℤ (div_ceil n d), down-neg_ℤ (div_ceil n d)) (omega (arith, r.2)) }) in
+    ap neg_ℤ turned ∙ neg_ℤ-neg_ℤ (div_ceil n d)
