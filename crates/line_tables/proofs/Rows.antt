@@ -1,5 +1,5 @@
 -- The rules of line files at small files, computed from the definitions alone.
-use Rattle.std.proofs.Common.{◌≡◌, Ok, Err, [], ◌∷◌, codes, pos, refl}
+use Rattle.std.proofs.Common.{◌≡◌, Ok, Err, [], ◌∷◌, codes, pos, neg_ℤ, refl}
 use Rattle.csv.specs.Machine.{next_record}
 use Rattle.csv.specs.Reading.{records_from, strip_bom}
 use Rattle.std.specs.Str.{chars, is_utf8}
@@ -92,3 +92,25 @@ hill : reading_of (codes "line,Hill,1000\ngradient,50,1000,100\n") ≡ Ok (recor
 })
 unfolding next_record records_from strip_bom whole_of is_utf8 chars encode first_fault
 hill = refl
+
+slopes_meet : reading_of (codes "line,A,10\ngradient,0,5,1000\ngradient,5,10,-1000\n") ≡ Ok (record {
+  name = codes "A";
+  length = 10;
+  slopes = record { from = 0; to = 5; tenths = pos 1000 } ∷ record { from = 5; to = 10; tenths = neg_ℤ (pos 1000) } ∷ [];
+  limits = [];
+  points = [];
+})
+unfolding next_record records_from strip_bom whole_of is_utf8 chars encode first_fault
+slopes_meet = refl
+
+too_steep : reading_of (codes "line,A,10\ngradient,0,5,-1001\n") ≡ Err (Bad 2 4)
+unfolding next_record records_from strip_bom whole_of is_utf8 chars encode first_fault
+too_steep = refl
+
+place_past_any_line : reading_of (codes "point,500001,P\n") ≡ Err (Bad 1 4)
+unfolding next_record records_from strip_bom whole_of is_utf8 chars encode first_fault
+place_past_any_line = refl
+
+point_before_line : reading_of (codes "point,500000,P\n") ≡ Err (Bad 1 5)
+unfolding next_record records_from strip_bom whole_of is_utf8 chars encode first_fault
+point_before_line = refl

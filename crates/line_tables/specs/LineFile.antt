@@ -32,6 +32,7 @@ abbrev pub line_by : Option Kind → Record → Option (List ℕ × ℕ)
 line_by (Some Line) r = option_map (λ n. (field r 1, n)) (number_in 2 500000 (field r 2))
 line_by _ r = None
 
+-- the name and the length that a record gives, by its first field
 abbrev pub line_of : Record → Option (List ℕ × ℕ)
 line_of r = line_by (kind_of (field r 0)) r
 
@@ -51,6 +52,7 @@ abbrev pub slope_by : Option Kind → Record → Option Slope
 slope_by (Some Gradient) r = slope_from (number_in 0 500000 (field r 1)) (number_in 0 500000 (field r 2)) (tenths_of (field r 3))
 slope_by _ r = None
 
+-- the slope that a record gives, by its first field
 abbrev pub slope_of : Record → Option Slope
 slope_of r = slope_by (kind_of (field r 0)) r
 
@@ -66,6 +68,7 @@ abbrev pub zone_by : Option Kind → Record → Option Zone
 zone_by (Some Limit) r = zone_from (number_in 0 500000 (field r 1)) (number_in 0 500000 (field r 2)) (number_in 1 500 (field r 3))
 zone_by _ r = None
 
+-- the zone that a record gives, by its first field
 abbrev pub zone_of : Record → Option Zone
 zone_of r = zone_by (kind_of (field r 0)) r
 
@@ -74,6 +77,7 @@ abbrev pub point_by : Option Kind → Record → Option (List ℕ × ℕ)
 point_by (Some Point) r = option_map (λ n. (field r 2, n)) (number_in 0 500000 (field r 1))
 point_by _ r = None
 
+-- the name and the position that a record gives, by its first field
 abbrev pub point_of : Record → Option (List ℕ × ℕ)
 point_of r = point_by (kind_of (field r 0)) r
 
@@ -103,9 +107,11 @@ last_place d = unwrap_or (option_map (λ l. l.1) d.line) 500000
 abbrev pub slopes_end : DraftTable → ℕ
 slopes_end d = unwrap_or (option_map (λ s. s.to) (slice_get d.slopes (length d.slopes - 1))) 0
 
+-- whether a text is the numeral of a number of 64 bits
 abbrev pub is_numeral : List ℕ → Bool
 is_numeral text = is_some (whole_of text)
 
+-- whether a text is the numeral of a number from low to high
 abbrev pub is_in : ℕ → ℕ → List ℕ → Bool
 is_in low high text = is_some (number_in low high text)
 
@@ -180,6 +186,7 @@ file_fault bytes = first_fault (λ before r. rule_after (draft_of before) r) [] 
 abbrev pub table_of : DraftTable → Option LineTable
 table_of d = option_map (line_with d) d.line
 
+-- by the first fault and the line
 abbrev pub reading_by : Option (ℕ × ℕ) → Option LineTable → Result LineTable LineFault
 reading_by (Some f) table = Err (Bad f.0 f.1)
 reading_by None (Some table) = Ok table

@@ -148,6 +148,8 @@ mod tests {
         assert_eq!(rt; number_in(1, 500, b"500"), Some(500));
         assert_eq!(rt; number_in(1, 500, b"501"), None);
         assert_eq!(rt; number_in(0, 500, b"-1"), None);
+        assert_eq!(rt; signed_within(-1000, 1000, -1000), Some(-1000));
+        assert_eq!(rt; signed_within(-1000, 1000, -1001), None);
         Ok(())
     }
 }
