@@ -1,1 +1,2 @@
 pub mod MonotoneFacts
+pub mod SpanFacts
