@@ -11,6 +11,9 @@ ghost use Rattle.run_rules.specs.Steps.{IsPull, fall_from};
 ghost use Rattle.step_rule.specs.Motion.{IsMotion, cells_of, kmh_of, most_of, step_rule_of};
 ghost use Rattle.step_rule.specs.Spans.{IsSpan};
 
+#[cfg(test)]
+mod tests;
+
 use std::marker::Model;
 use std::sync::ledger::Ledger;
 use table_laws::{Bands, Law};
