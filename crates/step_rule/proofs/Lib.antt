@@ -1,0 +1,2 @@
+pub mod MonotoneFacts
+pub mod SpanFacts

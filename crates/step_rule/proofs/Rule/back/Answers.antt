@@ -1,0 +1,23 @@
+use Rattle.std.proofs.Common.{◌<ℤ◌, pos, arith}
+use Rattle.std.proofs.lemmas.Int.{ints}
+use Rattle.step_rule.specs.Motion.{cells_of, most_of, step_rule_of}
+use Rattle.step_rule.proofs.SpanFacts.{IsSpan-greatest, IsSpan-zero, most_of-le}
+use Rattle.step_rule.proofs.Rule.back.Goals as goal
+
+pub halved-requires-clause-span : goal.halved-requires-clause-span
+halved-requires-clause-span g c =
+    let motion = c.args.self.now in
+    let value = c.low.ensures.value in
+    let fast : pos c.args.w <ℤ (step_rule_of motion).low c.args.cell c.args.most = omega (arith, ints) in
+    IsSpan-zero (step_rule_of motion) (cells_of motion) (most_of motion) c.args.cell c.args.w c.args.most c.cells-cells.ensures.monotone c.requires.cell fast
+
+pub returns-clause-greatest : goal.returns-clause-greatest
+returns-clause-greatest g c =
+    let motion = c.args.self.now in
+    λ u h. IsSpan-greatest (step_rule_of motion) (cells_of motion) (most_of motion) c.args.cell c.args.w c.halved.result u c.cells-cells.ensures.monotone c.requires.cell c.halved.ensures.greatest (omega arith)
+
+pub returns-clause-cost : goal.returns-clause-cost
+returns-clause-cost g c =
+    let small = most_of-le c.args.self.now c.cells-cells.ensures.kept in
+    let few = c.halved.ensures.cost 32 (omega arith) in
+    omega arith
