@@ -113,3 +113,47 @@ fn bound_cap(most: u32, bounds: &[Bound], point: u32) -> u32
     }
     least
 }
+
+#[cfg(test)]
+mod tests {
+    use super::*;
+    use std::test::Fail;
+
+    // The caps of a line of 300 m for a train of 50 m and 60 km/h, with a limit of 36 km/h from 100
+    // to 200, a stop at 20, and a bound at the end.
+    #[test]
+    fn caps(rt: HostRuntime) -> Result<(), Fail> {
+        let zones = [Zone {
+            from: 100,
+            to: 200,
+            kmh: 36,
+        }];
+        let bounds = [
+            Bound { at: 20, most: 0 },
+            Bound {
+                at: 300,
+                most: 10_000,
+            },
+        ];
+        let limits = Limits::new(rt.alloc(), 300, 50, 60, &zones, &bounds);
+        assert!(rt; limits.is_ok());
+        let Ok(limits) = limits else {
+            return Ok(());
+        };
+        let rows = [
+            (0, 36_000_000),
+            (19, 36_000_000),
+            (20, 0),
+            (21, 36_000_000),
+            (99, 36_000_000),
+            (100, 12_960_000),
+            (250, 12_960_000),
+            (251, 36_000_000),
+            (300, 10_000),
+        ];
+        for (point, cap) in rows {
+            assert_eq!(rt; limits.cap(point), cap);
+        }
+        Ok(())
+    }
+}

@@ -72,3 +72,6 @@ fn put_point(page: &mut Page, point: u64, number: u32)
     page.put_number(number as u64);
     page.put(b"\n");
 }
+
+#[cfg(test)]
+mod tests;

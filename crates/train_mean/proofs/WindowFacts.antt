@@ -1,12 +1,13 @@
 -- The slopes of a line, and the sums of their gradients under a train.
-use Rattle.std.proofs.Common.{◌≡◌, ◌≤◌, ◌<◌, ◌+◌, ◌-◌, ◌*◌, ℕ, zero, suc, List, [], ◌∷◌, length, All, ℤ, pos, neg_ℤ, ◌≤ℤ◌, ◌+ℤ◌, ◌-ℤ◌, true, false, Bool, cond, nat_le, nat_lt, ◌&&◌, refl, sym, ap, ap₂, ◌∙◌, arith}
+use Rattle.std.proofs.Common.{◌≡◌, ◌≤◌, ◌<◌, ◌+◌, ◌-◌, ◌*◌, ℕ, zero, suc, List, [], ◌∷◌, length, All, ℤ, pos, neg_ℤ, ◌≤ℤ◌, ◌+ℤ◌, ◌-ℤ◌, true, false, Bool, cond, nat_le, nat_lt, ◌&&◌, refl, sym, ap, ap₂, ◌∙◌, arith, SFits, to_z, of_z}
 use Rattle.std.specs.Prelude.{AllPairs}
-use Rattle.std.proofs.lemmas.Int.{ints}
+use Rattle.std.specs.Int.{w32, w64}
+use Rattle.std.proofs.lemmas.Int.{ints, to_z-of_z}
 use Rattle.std.proofs.lemmas.List.Elements.{All-head, All-tail}
 use Rattle.line_tables.specs.Slope.{Follows, SlopeLiesOn}
 use Rattle.line_tables.specs.Table.{IsLine, LineTable}
 use Rattle.line_tables.specs.declared.table.Slope.{Slope}
-use Rattle.train_mean.specs.Gradients.{gradient_at, gradients_under, sum_from}
+use Rattle.train_mean.specs.Gradients.{gradient_at, gradients_under, sum_from, tail_cell}
 use Rattle.train_mean.specs.Windows.{AreSlopes, IsSlope, TellsFrom, gradient_left}
 use Rattle.train_mean.proofs.GradientFacts.{sum_from-least, sum_from-most, sum_from-moved}
 use Rattle.train_mean.proofs.PullFacts.{IsMean}
@@ -62,3 +63,23 @@ sum-moved slopes head head' tail train cell sum entered left e f g h m n =
     let first : entered ≡ gradient_at slopes cell = m ∙ g cell (omega arith) ∙ f cell (omega arith) in
     let second : left ≡ gradient_left slopes train cell = n ∙ ap (λ (z : ℤ). cond (nat_le train cell) z (pos 0)) (h (cell - train) (omega arith)) in
     rw (e, first, second) (sum_from-moved (gradient_at slopes) train cell)
+
+-- a number of 64 bits is the sum of the gradients under the train, of at most 1000 tenths a metre
+pub record IsSumUnder (slopes : List Slope) (train cell : ℕ) (sum : ℤ) : Type 0 where
+  pub value : to_z w64 (of_z w64 sum) ≡ gradients_under slopes train cell
+  pub mean : IsMean train (to_z w64 (of_z w64 sum))
+
+-- such is the sum that the code makes of 32-bit gradients
+pub IsSumUnder-moved : (slopes head head' tail : List Slope) (train cell : ℕ) (sum entered left result : ℤ) → AreSlopes slopes → train ≤ 5000
+    → SFits w32 entered → SFits w32 left → result ≡ (sum +ℤ to_z w32 (of_z w32 entered)) -ℤ to_z w32 (of_z w32 left)
+    → sum ≡ sum_from (gradient_at slopes) (cell - train) (cell - (cell - train))
+    → TellsFrom cell slopes head → TellsFrom cell head head' → TellsFrom (cell - train) slopes tail → entered ≡ gradient_at head' cell → left ≡ gradient_left tail train cell
+    → IsSumUnder slopes train cell result
+IsSumUnder-moved slopes head head' tail train cell sum entered left result a t fe fl r e f g h m n =
+    let plain : result ≡ (sum +ℤ entered) -ℤ left = simp to_z-of_z at r in
+    let value : result ≡ gradients_under slopes train cell = plain ∙ sum-moved slopes head head' tail train cell sum entered left e f g h m n in
+    let mean : IsMean train result = rw value (IsMean-under slopes train (tail_cell train cell) (cell + 1) a (omega arith)) in
+    let least = mean.least in
+    let most = mean.most in
+    let fits : SFits w64 result = omega (arith, ints, least, most, t) in
+    record { value = simp to_z-of_z value; mean = simp to_z-of_z mean }

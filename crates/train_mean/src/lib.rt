@@ -29,9 +29,9 @@ pub fn pulls(alloc: Global, line: &Line, mass: u32, train: u32) -> Result<Vec<i6
         let (left, behind) = leave(tail, train, cell);
         tail = left;
         sum = moved_sum(sum, gradient_in(head, cell), behind);
-        if pulls.push(pull(mass, train, sum)).is_err() {
+        let Ok(()) = pulls.push(pull(mass, train, sum)) else {
             return Err(Memory);
-        }
+        };
     }
     Ok(pulls)
 }
@@ -115,5 +115,52 @@ fn pull(mass: u32, train: u32, sum: i64) -> i64
         -((size / divisor) as i64)
     } else {
         size.div_ceil(divisor) as i64
+    }
+}
+
+#[cfg(test)]
+mod tests {
+    use super::*;
+    use line_tables::read_line;
+    use std::test::Fail;
+
+    // The pulls on a train of 259,200 kg and 10 m, as it enters a hill and as it leaves one.
+    #[test]
+    fn hills(rt: HostRuntime) -> Result<(), Fail> {
+        let hill = b"line,Hill,1000\ngradient,50,1000,100\n".as_slice();
+        let steep = b"line,Steep,200\ngradient,100,110,200\n";
+        let dale = b"line,Dale,200\ngradient,100,110,-200\ngradient,110,111,7\n";
+        let rows = [
+            (hill, 49, 0),
+            (hill, 50, 659081319),
+            (hill, 51, 1318162637),
+            (hill, 52, 1977243956),
+            (hill, 53, 2636325274),
+            (hill, 54, 3295406592),
+            (hill, 55, 3954487911),
+            (hill, 56, 4613569229),
+            (hill, 57, 5272650548),
+            (hill, 58, 5931731866),
+            (hill, 59, 6590813184),
+            (hill, 999, 6590813184),
+            (steep, 109, 13181626368),
+            (steep, 119, 0),
+            (dale, 109, -13181626368),
+            (dale, 110, -11817328038),
+        ];
+        for (text, cell, wanted) in rows {
+            let line = read_line(rt.alloc(), text);
+            assert!(rt; line.is_ok());
+            let Ok(line) = line else {
+                return Ok(());
+            };
+            let found = pulls(rt.alloc(), &line, 259_200, 10);
+            assert!(rt; found.is_ok());
+            let Ok(found) = found else {
+                return Ok(());
+            };
+            assert_eq!(rt; found.get(cell).copied(), Some(wanted));
+        }
+        Ok(())
     }
 }
