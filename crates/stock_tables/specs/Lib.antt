@@ -1,0 +1,3 @@
+pub mod Curve
+pub mod Key
+pub mod Steps
