@@ -2,5 +2,5 @@
 use Rattle.std.specs.Prelude.{ℕ, ◌*◌}
 
 -- the square of a whole number of km/h, in (0.01 km/h)²
-abbrev pub squared : ℕ → ℕ
+unfoldable pub squared : ℕ → ℕ
 squared kmh = 10000 * (kmh * kmh)

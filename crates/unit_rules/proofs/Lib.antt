@@ -1,2 +1,4 @@
 pub mod DigitFacts
+pub mod FloorFacts
+pub mod RootFacts
 pub mod WholeFacts

@@ -1,3 +1,5 @@
 pub mod Memory
 pub mod Numeral
+pub mod Quotients
+pub mod Roots
 pub mod Zone

@@ -1,12 +1,14 @@
-//! The rules of units that every layer shares: want of memory, numerals, zones of a line, and a
-//! counter of steps.
+//! The rules of units that every layer shares: want of memory, numerals, exact quotients, zones of
+//! a line, and a counter of steps.
 #![tactic(auto)]
 
 mod counter;
 mod numerals;
+mod quotients;
 
 pub use counter::Steps;
 pub use numerals::{number_in, read_whole, within};
+pub use quotients::{div_ceil, div_floor};
 
 /// Memory was wanted and could not be had.
 #[derive(Clone, Copy, Debug, PartialEq, Eq)]

@@ -1,0 +1,2 @@
+pub mod GridFacts
+pub mod SpeedFacts

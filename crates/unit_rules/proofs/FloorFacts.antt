@@ -1,0 +1,118 @@
+-- How quotients rounded down compare.
+use Rattle.std.proofs.Common.{◌≡◌, ℕ, zero, suc, ◌+◌, ◌-◌, ◌*◌, ◌/◌, ◌%◌, ◌<◌, ◌≤◌, ℤ, pos, negsuc, ◌≤ℤ◌, ◌<ℤ◌, ◌+ℤ◌, ◌-ℤ◌, ◌*ℤ◌, arith, refl, ap, mod-lt, div-add-mod', div-le_self, neg_ℤ, unsigned_abs, SFits, ◌∙◌, ◌^◌}
+use Rattle.std.specs.Int.{int_div_euclid}
+use mir.Syntax.{w128}
+use Rattle.std.proofs.Math.Nat.{zero-div}
+use Rattle.std.proofs.lemmas.Int.{ints, by_lt_z}
+use borrow.Author.Differences.{up, down, product_is}
+use Rattle.unit_rules.specs.Quotients.{floor_div, ceil_div, IsFloorOf, IsCeilingOf}
+
+-- what is left of a by the quotient q
+pub record LeavesRest (a : ℤ) (d : ℕ) (q : ℤ) (rest : ℕ) : Type 0 where
+  pub small : rest < d
+  pub whole : up a + down q * d ≡ up q * d + down a + rest
+
+pub floor_rest : (a : ℤ) (d : ℕ) → 0 < d → (rest : ℕ) × LeavesRest a d (floor_div a d) rest
+floor_rest (pos a) d h = (a % d, record { small = mod-lt a h; whole = omega (arith, div-add-mod' a d) })
+floor_rest (negsuc a) d h = (d - 1 - a % d, record { small = omega arith; whole = let e = div-add-mod' a d in let s = mod-lt a h in omega arith })
+
+-- in naturals, where the quotient p is more than m above q
+apart : (ua da ub db up' dp uq dq d m r s t : ℕ) → up' + dq ≡ uq + dp + m + 1 + t → ua + db ≤ ub + da + m * d → ua + dp * d ≡ up' * d + da + r → ub + dq * d ≡ uq * d + db + s → s < d → ⊥
+apart ua da ub db up' dp uq dq d m r s t e l f g h =
+    let scaled = ap (λ n. n * d) e in omega arith
+
+floor_compare : (a b p q : ℤ) (d m r s : ℕ) → a ≤ℤ (b +ℤ pos (m * d)) → LeavesRest a d p r → LeavesRest b d q s → p ≤ℤ (q +ℤ pos m)
+floor_compare a b p q d m r s l f g =
+    by_lt_z (q +ℤ pos m) p
+    (λ lt.
+    let t = (up p + down q) - (up q + down p + m + 1) in
+    let e : up p + down q ≡ up q + down p + m + 1 + t = omega (arith, ints) in
+    let l' : up a + down b ≤ up b + down a + m * d = omega (arith, ints) in
+    absurd (apart (up a) (down a) (up b) (down b) (up p) (down p) (up q) (down q) d m r s t e l' f.whole g.whole g.small))
+    (λ le. le)
+
+-- a is at most m divisors above b
+pub floor_div-at_most : (a b : ℤ) (d m : ℕ) → 0 < d → a ≤ℤ (b +ℤ pos (m * d)) → floor_div a d ≤ℤ (floor_div b d +ℤ pos m)
+floor_div-at_most a b d m h l =
+    let fa = floor_rest a d h in
+    let fb = floor_rest b d h in
+    floor_compare a b (floor_div a d) (floor_div b d) d m fa.0 fb.0 l fa.1 fb.1
+
+-- a greater number has no smaller quotient
+pub floor_div-mono : (a b : ℤ) (d : ℕ) → 0 < d → a ≤ℤ b → floor_div a d ≤ℤ floor_div b d
+floor_div-mono a b d h l = let q = floor_div-at_most a b d 0 h (omega (arith, ints)) in omega (arith, ints)
+
+-- a quotient and a rest below the divisor are the only ones
+floor_unique : (a p q : ℤ) (d r s : ℕ) → LeavesRest a d p r → LeavesRest a d q s → p ≡ q
+floor_unique a p q d r s f g =
+    let up_to = floor_compare a a p q d 0 r s (omega (arith, ints)) f g in
+    let down_to = floor_compare a a q p d 0 s r (omega (arith, ints)) g f in
+    omega (arith, ints)
+
+-- a multiple of the divisor leaves no rest
+pub floor_div-product : (z : ℤ) (d : ℕ) → 0 < d → floor_div (z *ℤ pos d) d ≡ z
+floor_div-product z d h =
+    let f = floor_rest (z *ℤ pos d) d h in
+    floor_unique (z *ℤ pos d) (floor_div (z *ℤ pos d) d) z d f.0 0 f.1 (record { small = h; whole = let p = product_is z (pos d) in omega arith })
+
+pub floor_div-zero : (d : ℕ) → floor_div (pos 0) d ≡ pos 0
+floor_div-zero d = ap pos (zero-div d)
+
+-- a quotient is no larger than the number, either way
+pub floor_div-most : (z : ℤ) (d m : ℕ) → z ≤ℤ pos m → floor_div z d ≤ℤ pos m
+floor_div-most (pos n) d m h = let l = div-le_self n d in omega (arith, ints)
+floor_div-most (negsuc n) d m h = omega (arith, ints)
+
+pub floor_div-least : (z : ℤ) (d m : ℕ) → neg_ℤ (pos m) ≤ℤ z → neg_ℤ (pos m) ≤ℤ floor_div z d
+floor_div-least (pos n) d m h = omega (arith, ints)
+floor_div-least (negsuc n) d m h = let l = div-le_self n d in omega (arith, ints)
+
+-- the quotient rounded down is the greatest number with at most that product
+product_at_most : (a q : ℤ) (d r : ℕ) → LeavesRest a d q r → (q *ℤ pos d) ≤ℤ a
+product_at_most a q d r f = let p = product_is q (pos d) in let w = f.whole in omega (arith, ints)
+
+pub floor_div-floor : (a : ℤ) (d : ℕ) → 0 < d → IsFloorOf a (pos d) (floor_div a d)
+floor_div-floor a d h =
+    let f = floor_rest a d h in
+    record {
+      at_most = product_at_most a (floor_div a d) d f.0 f.1;
+      greatest = λ z l. let e = floor_div-product z d h in let m = floor_div-mono (z *ℤ pos d) a d h l in rw e at m;
+    }
+
+pub int_div_euclid-floor : (a b : ℤ) → pos 0 <ℤ b → IsFloorOf a b (int_div_euclid a b)
+int_div_euclid-floor a (pos d) h = floor_div-floor a d (omega (arith, ints))
+int_div_euclid-floor a (negsuc d) h = absurd (omega (arith, ints))
+
+pub int_div_euclid-abs : (a b : ℤ) → pos 0 <ℤ b → int_div_euclid a b ≡ floor_div a (unsigned_abs b)
+int_div_euclid-abs a (pos d) h = refl
+int_div_euclid-abs a (negsuc d) h = absurd (omega (arith, ints))
+
+neg_ℤ-sub : (a : ℤ) → pos 0 -ℤ a ≡ neg_ℤ a
+neg_ℤ-sub a = omega (arith, ints)
+
+-- the quotient of what is below 0 by as much, turned round, is the quotient rounded up
+pub ceil_div-turned : (a q : ℤ) (d : ℕ) → q ≡ floor_div (pos 0 -ℤ a) d → pos 0 -ℤ q ≡ ceil_div a d
+ceil_div-turned a q d e = neg_ℤ-sub q ∙ ap neg_ℤ (e ∙ ap (λ z. floor_div z d) (neg_ℤ-sub a))
+
+product-turned : (q b : ℤ) → (pos 0 -ℤ q) *ℤ b ≡ pos 0 -ℤ (q *ℤ b)
+product-turned q b =
+    let p = pos 0 -ℤ q in
+    let e : up p + up q ≡ down p + down q = omega (arith, ints) in
+    let scaled_up = ap (λ n. n * up b) e in
+    let scaled_down = ap (λ n. n * down b) e in
+    let f = product_is p b in
+    let g = product_is q b in
+    omega (arith, ints)
+
+pub IsCeilingOf-turned : (a b q : ℤ) → IsFloorOf (pos 0 -ℤ a) b q → IsCeilingOf a b (pos 0 -ℤ q)
+IsCeilingOf-turned a b q f = record {
+  at_least = let m = f.at_most in rw (product-turned q b) (omega (arith, ints));
+  least = λ z l. let g = f.greatest (pos 0 -ℤ z) (rw (product-turned z b) (omega (arith, ints))) in omega (arith, ints);
+}
+
+-- the quotient of a number of 127 bits has no more
+pub floor_div-fits : (a q : ℤ) (d : ℕ) → neg_ℤ (pos (2 ^ 126)) ≤ℤ a → a ≤ℤ pos (2 ^ 126) → q ≡ floor_div (pos 0 -ℤ a) d → SFits w128 (pos 0 -ℤ q)
+floor_div-fits a q d l m e =
+    let most = floor_div-most (pos 0 -ℤ a) d (2 ^ 126) (omega (arith, ints)) in
+    let least = floor_div-least (pos 0 -ℤ a) d (2 ^ 126) (omega (arith, ints)) in
+    omega (arith, ints)
