@@ -1,8 +1,10 @@
 -- Rows in order.
-use Rattle.std.proofs.Common.{◌≡◌, ℕ, ◌+◌, ◌<◌, ◌≤◌, zero, suc, Bool, true, false, ◌&&◌, nat_lt, List, [], ◌∷◌, length, map, get_or, refl, arith}
-use Rattle.std.proofs.lemmas.Bool.{and_parts}
+use Rattle.std.proofs.Common.{◌≡◌, ℕ, ◌+◌, ◌-◌, ◌<◌, ◌≤◌, zero, suc, Bool, true, false, ◌&&◌, ◌==◌, nat_lt, nat_le, List, [], ◌∷◌, All, length, map, get_or, add-one, refl, sym, arith, inl, inr}
+use Rattle.std.proofs.lemmas.Bool.{and_parts, cases_Bool, cases_eq}
 use Rattle.std.proofs.lemmas.Bool.Decides.{nat_tests}
-use Rattle.stock_tables.specs.Curve.{is_rising}
+use Rattle.std.proofs.lemmas.List.{get_or-map, length-map}
+use Rattle.stock_tables.specs.declared.curve.Row.{Row}
+use Rattle.stock_tables.specs.Curve.{IsCurve, IsRow, are_in_order, is_rising, speeds}
 
 nat_lt-true : (x y : ℕ) → nat_lt x y ≡ true → x < y
 nat_lt-true x y e = grind (arith, nat_tests, e)
@@ -10,16 +12,82 @@ nat_lt-true x y e = grind (arith, nat_tests, e)
 true-nat_lt : (x y : ℕ) → x < y → nat_lt x y ≡ true
 true-nat_lt x y h = grind (arith, nat_tests, h)
 
--- each of rising numbers is below the next
-pub rises-at : (xs : List ℕ) → is_rising xs ≡ true → (i : ℕ) → suc i < length xs → get_or xs i 0 < get_or xs (suc i) 0
-rises-at [] e i h = absurd (omega arith)
-rises-at (x ∷ []) e i h = absurd (omega arith)
-rises-at (x ∷ y ∷ xs) e zero h = nat_lt-true x y (and_parts (nat_lt x y) (is_rising (y ∷ xs)) e).0
-rises-at (x ∷ y ∷ xs) e (suc i) h = rises-at (y ∷ xs) (and_parts (nat_lt x y) (is_rising (y ∷ xs)) e).1 i (omega arith)
+-- each of the first n numbers is below the next
+abbrev pub RiseTo : ℕ → List ℕ → Type 0
+RiseTo n xs = (i : ℕ) → suc i < n → get_or xs i 0 < get_or xs (suc i) 0
 
-pub is_rising-each : (xs : List ℕ) → ((i : ℕ) → suc i < length xs → get_or xs i 0 < get_or xs (suc i) 0) → is_rising xs ≡ true
-is_rising-each [] h = refl
-is_rising-each (x ∷ []) h = refl
-is_rising-each (x ∷ y ∷ xs) h =
+is_rising-at : (xs : List ℕ) → is_rising xs ≡ true → RiseTo (length xs) xs
+is_rising-at [] e i h = absurd (omega arith)
+is_rising-at (x ∷ []) e i h = absurd (omega arith)
+is_rising-at (x ∷ y ∷ xs) e zero h = nat_lt-true x y (and_parts (nat_lt x y) (is_rising (y ∷ xs)) e).0
+is_rising-at (x ∷ y ∷ xs) e (suc i) h = is_rising-at (y ∷ xs) (and_parts (nat_lt x y) (is_rising (y ∷ xs)) e).1 i (omega arith)
+
+rises-each : (xs : List ℕ) → RiseTo (length xs) xs → is_rising xs ≡ true
+rises-each [] h = refl
+rises-each (x ∷ []) h = refl
+rises-each (x ∷ y ∷ xs) h =
     let first : nat_lt x y ≡ true = true-nat_lt x y (h 0 (omega arith)) in
-    rw first (is_rising-each (y ∷ xs) (λ i b. h (suc i) (omega arith)))
+    rw first (rises-each (y ∷ xs) (λ i b. h (suc i) (omega arith)))
+
+-- what the code reads past the end of rows
+abbrev pub no_row : Row
+no_row = record { kmh = 0; value = 0 }
+
+-- the speed of the row at a place
+pub speeds-at : (rows : List Row) (i : ℕ) → i < length rows → get_or (speeds rows) i 0 ≡ (get_or rows i no_row).kmh
+speeds-at rows i h = get_or-map (λ r. r.kmh) rows i no_row 0 h
+
+pub length-speeds : (rows : List Row) → length (speeds rows) ≡ length rows
+length-speeds rows = length-map rows (λ r. r.kmh)
+
+pub is_rising-each : (rows : List Row) (n : ℕ) → length rows ≤ n → RiseTo n (speeds rows) → true ≡ is_rising (speeds rows)
+is_rising-each rows n long rise = sym (rises-each (speeds rows) (λ i h. rise i (omega (arith, length-speeds rows))))
+
+pub rises_more : (rows : List Row) (n : ℕ) → 1 ≤ n → n < length rows → RiseTo n (speeds rows)
+    → (get_or rows (n - 1) no_row).kmh < (get_or rows n no_row).kmh → RiseTo (n + 1) (speeds rows)
+rises_more rows n some within rise last i h =
+    elim (cases_eq (suc i) n) [
+      | inl e ↦
+          let k : i ≡ n - 1 = omega arith in
+          rw (e, k, speeds-at rows (n - 1) (omega arith), speeds-at rows n within) last
+      | inr ne ↦ rise i (omega arith)
+    ]
+
+pub not_rising : (rows : List Row) (n : ℕ) → 1 ≤ n → n < length rows → (get_or rows n no_row).kmh ≤ (get_or rows (n - 1) no_row).kmh → false ≡ is_rising (speeds rows)
+not_rising rows n some within falls =
+    elim (cases_Bool (is_rising (speeds rows))) [
+      | inl rise ↦
+          let e : suc (n - 1) ≡ n = omega arith in
+          let up = is_rising-at (speeds rows) rise (n - 1) (omega (arith, length-speeds rows)) in
+          let up' = rw (e, speeds-at rows (n - 1) (omega arith), speeds-at rows n within) at up in
+          absurd (omega arith)
+      | inr not ↦ sym not
+    ]
+
+both : (a b : Bool) → (a && b) ≡ true → (a ≡ true) × (b ≡ true)
+both a b e = and_parts a b e
+
+-- rows in order up to a top speed are a curve
+pub IsCurve-ordered : (top : ℕ) (rows : List Row) → are_in_order top rows ≡ true → All IsRow rows → IsCurve rows
+IsCurve-ordered top rows e ranges =
+    let enough = nat_le 2 (length rows) in
+    let first = (get_or (speeds rows) 0 0 == 0) in
+    let last = (get_or (speeds rows) (length rows - 1) 0 == top) in
+    let rise = both (enough && first && last) (is_rising (speeds rows)) e in
+    let starts = both (enough && first) last rise.0 in
+    let some = both enough first starts.0 in
+    record {
+      some = grind (arith, nat_tests, some);
+      starts = grind (arith, nat_tests, some);
+      rises = λ i h. rw add-one (is_rising-at (speeds rows) rise.1 i (omega (arith, length-speeds rows)));
+      ranges = ranges;
+    }
+
+pub last-ordered : (top : ℕ) (rows : List Row) → are_in_order top rows ≡ true → get_or (speeds rows) (length rows - 1) 0 ≡ top
+last-ordered top rows e =
+    let enough = nat_le 2 (length rows) in
+    let first = (get_or (speeds rows) 0 0 == 0) in
+    let last = (get_or (speeds rows) (length rows - 1) 0 == top) in
+    let rise = both (enough && first && last) (is_rising (speeds rows)) e in
+    let ends = both (enough && first) last rise.0 in
+    grind (arith, nat_tests, ends)

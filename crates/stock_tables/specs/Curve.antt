@@ -1,8 +1,8 @@
 -- Curves: the values by speed that the rows of a table give.
-use Rattle.std.specs.Prelude.{ℕ, ◌≡◌, ◌+◌, ◌-◌, ◌≤◌, ◌<◌, Bool, true, ◌==◌, ◌&&◌, nat_lt, nat_le, List, [], ◌∷◌, drop, length, map, slice_index, All, ℤ, pos, ◌+ℤ◌, ◌-ℤ◌, ◌*ℤ◌}
+use Rattle.std.specs.Prelude.{ℕ, ◌≡◌, ◌+◌, ◌-◌, ◌≤◌, ◌<◌, Bool, true, ◌==◌, ◌&&◌, nat_lt, nat_le, List, [], ◌∷◌, drop, length, map, slice_index, All, ℤ, pos}
 use Rattle.std.specs.List.{find, range_with_len, zip}
 use Rattle.std.specs.Option.{option_map_or}
-use Rattle.std.specs.Int.{int_div_euclid}
+use Rattle.run_rules.specs.Grids.{value_between}
 use Rattle.stock_tables.specs.declared.curve.Row.{Row}
 
 -- the speeds of rows, in km/h
@@ -20,9 +20,9 @@ abbrev pub are_in_order : ℕ → List Row → Bool
 are_in_order top rows =
     nat_le 2 (length rows) && (slice_index (speeds rows) 0 == 0) && (slice_index (speeds rows) (length rows - 1) == top) && is_rising (speeds rows)
 
--- the value at a speed on the straight line from one row to the next, rounded down
-abbrev pub value_between : Row → Row → ℕ → ℤ
-value_between a b kmh = pos a.value +ℤ int_div_euclid ((pos b.value -ℤ pos a.value) *ℤ pos (kmh - a.kmh)) (pos (b.kmh - a.kmh))
+-- the value at a speed on the way from one row to the next, rounded down
+abbrev pub value_on : Row × Row → ℕ → ℤ
+value_on pair kmh = value_between (pos pair.0.value) (pos pair.1.value) (kmh - pair.0.kmh) (pair.1.kmh - pair.0.kmh)
 
 -- each row with the next one
 abbrev pub neighbours : List Row → List (Row × Row)
@@ -32,9 +32,9 @@ neighbours rows = zip rows (drop 1 rows)
 abbrev pub lies_between : ℕ → Row × Row → Bool
 lies_between kmh pair = nat_le pair.0.kmh kmh && nat_le kmh pair.1.kmh
 
--- the value at a speed: on the line between the first two neighbours between which the speed lies
+-- the value at a speed: on the way between the first two neighbours between which the speed lies
 abbrev pub value_at : List Row → ℕ → ℤ
-value_at rows kmh = option_map_or (λ pair. value_between pair.0 pair.1 kmh) (find (lies_between kmh) (neighbours rows)) (pos 0)
+value_at rows kmh = option_map_or (λ pair. value_on pair kmh) (find (lies_between kmh) (neighbours rows)) (pos 0)
 
 -- the values at 0, 1, .. up to the top speed
 abbrev pub values_to : ℕ → List Row → List ℤ
