@@ -2,9 +2,10 @@
 use Rattle.std.proofs.Common.{◌≡◌, ℕ, ◌+◌, ◌-◌, ◌*◌, ◌/◌, ◌<◌, ◌≤◌, ℤ, pos, ◌≤ℤ◌, ◌+ℤ◌, ◌-ℤ◌, ◌*ℤ◌, List, length, arith, refl, ap, sym, ◌∙◌, inl, inr}
 use Rattle.std.proofs.lemmas.Int.{ints}
 use Rattle.std.proofs.lemmas.Bool.{cases_lt}
+use borrow.Author.Differences.{up, down}
 use lib.IntN.{*ℤ-zero}
 use Rattle.unit_rules.specs.Quotients.{floor_div}
-use Rattle.unit_rules.proofs.FloorFacts.{floor_div-product, floor_div-zero}
+use Rattle.unit_rules.proofs.FloorFacts.{floor_div-part_least, floor_div-part_most, floor_div-product, floor_div-zero}
 use Rattle.unit_rules.proofs.RootFacts.{IsRootFloor-same, root_floor-is}
 use Rattle.run_rules.specs.Grids.{row, top_of, band_width, whole_kmh, value_between, value_at}
 use Rattle.run_rules.specs.Speeds.{squared}
@@ -70,3 +71,45 @@ value_at-squared rows k = value_at-row rows (squared k) k 0 (band_width k) (omeg
 
 pub value_at-zero : (rows : List ℤ) → value_at rows 0 ≡ row rows 0
 value_at-zero rows = ap (value_at rows) (sym squared-zero) ∙ value_at-squared rows 0
+
+-- the value on the way from one to the other is no greater than both, and no less
+pub value_between-most : (low high m : ℤ) (part all : ℕ) → part ≤ all → 0 < all → low ≤ℤ m → high ≤ℤ m → value_between low high part all ≤ℤ m
+value_between-most low high m part all h s l g =
+    let n = (up m + down low) - (down m + up low) in
+    let f = floor_div-part_most (high -ℤ low) part all n h s (omega (arith, ints)) in
+    omega (arith, ints)
+
+pub value_between-least : (low high m : ℤ) (part all : ℕ) → part ≤ all → 0 < all → m ≤ℤ low → m ≤ℤ high → m ≤ℤ value_between low high part all
+value_between-least low high m part all h s l g =
+    let n = (up low + down m) - (down low + up m) in
+    let f = floor_div-part_least (high -ℤ low) part all n h s (omega (arith, ints)) in
+    omega (arith, ints)
+
+-- what bounds the values at whole km/h bounds those between them
+pub value_at-most : (rows : List ℤ) (m : ℤ) (u : ℕ) → u ≤ squared (top_of rows) → ((k : ℕ) → k ≤ top_of rows → row rows k ≤ℤ m) → value_at rows u ≤ℤ m
+value_at-most rows m u l h =
+    let b = whole_kmh-band u in
+    let k = whole_kmh u in
+    let part = u - squared k in
+    let e : u ≡ squared k + part = omega arith in
+    let here = h k (kmh-at_most k (top_of rows) part (omega arith)) in
+    elim (cases_lt 0 part) [
+      | inl p ↦
+          let next = h (k + 1) (omega (arith, kmh-below k (top_of rows) part (omega arith) p)) in
+          rw (value_at-placed rows u k part (band_width k) e (omega arith) refl) (value_between-most (row rows k) (row rows (k + 1)) m part (band_width k) (omega arith) (band_width-some k) here next)
+      | inr z ↦ rw (value_at-row rows u k part (band_width k) e (omega arith) refl (omega arith)) here
+    ]
+
+pub value_at-least : (rows : List ℤ) (m : ℤ) (u : ℕ) → u ≤ squared (top_of rows) → ((k : ℕ) → k ≤ top_of rows → m ≤ℤ row rows k) → m ≤ℤ value_at rows u
+value_at-least rows m u l h =
+    let b = whole_kmh-band u in
+    let k = whole_kmh u in
+    let part = u - squared k in
+    let e : u ≡ squared k + part = omega arith in
+    let here = h k (kmh-at_most k (top_of rows) part (omega arith)) in
+    elim (cases_lt 0 part) [
+      | inl p ↦
+          let next = h (k + 1) (omega (arith, kmh-below k (top_of rows) part (omega arith) p)) in
+          rw (value_at-placed rows u k part (band_width k) e (omega arith) refl) (value_between-least (row rows k) (row rows (k + 1)) m part (band_width k) (omega arith) (band_width-some k) here next)
+      | inr z ↦ rw (value_at-row rows u k part (band_width k) e (omega arith) refl (omega arith)) here
+    ]

@@ -1,5 +1,5 @@
 -- How quotients rounded down compare.
-use Rattle.std.proofs.Common.{◌≡◌, ℕ, zero, suc, ◌+◌, ◌-◌, ◌*◌, ◌/◌, ◌%◌, ◌<◌, ◌≤◌, ℤ, pos, negsuc, ◌≤ℤ◌, ◌<ℤ◌, ◌+ℤ◌, ◌-ℤ◌, ◌*ℤ◌, arith, refl, ap, mod-lt, div-add-mod', div-le_self, neg_ℤ, unsigned_abs, SFits, ◌∙◌, ◌^◌}
+use Rattle.std.proofs.Common.{◌≡◌, ℕ, zero, suc, ◌+◌, ◌-◌, ◌*◌, ◌/◌, ◌%◌, ◌<◌, ◌≤◌, ℤ, pos, negsuc, ◌≤ℤ◌, ◌<ℤ◌, ◌+ℤ◌, ◌-ℤ◌, ◌*ℤ◌, arith, refl, ap, mod-lt, div-add-mod', div-le_self, neg_ℤ, unsigned_abs, SFits, ◌∙◌, ◌^◌, mul-le-mul}
 use Rattle.std.specs.Int.{int_div_euclid}
 use mir.Syntax.{w128}
 use Rattle.std.proofs.Math.Nat.{zero-div}
@@ -116,3 +116,19 @@ floor_div-fits a q d l m e =
     let most = floor_div-most (pos 0 -ℤ a) d (2 ^ 126) (omega (arith, ints)) in
     let least = floor_div-least (pos 0 -ℤ a) d (2 ^ 126) (omega (arith, ints)) in
     omega (arith, ints)
+
+-- a part of a number, no greater than the whole
+times_most : (z : ℤ) (part all m : ℕ) → part ≤ all → z ≤ℤ pos m → (z *ℤ pos part) ≤ℤ (pos 0 +ℤ pos (m * all))
+times_most (pos n) part all m h l = let p : n * part ≤ m * all = mul-le-mul (omega (arith, ints)) h in omega (arith, ints)
+times_most (negsuc n) part all m h l = omega (arith, ints)
+
+times_least : (z : ℤ) (part all m : ℕ) → part ≤ all → neg_ℤ (pos m) ≤ℤ z → pos 0 ≤ℤ (z *ℤ pos part +ℤ pos (m * all))
+times_least (pos n) part all m h l = omega (arith, ints)
+times_least (negsuc n) part all m h l = let p : suc n * part ≤ m * all = mul-le-mul (omega (arith, ints)) h in omega (arith, ints)
+
+-- that many parts of all of a number lie between 0 and the number
+pub floor_div-part_most : (z : ℤ) (part all m : ℕ) → part ≤ all → 0 < all → z ≤ℤ pos m → floor_div (z *ℤ pos part) all ≤ℤ pos m
+floor_div-part_most z part all m h s l = let f = floor_div-at_most (z *ℤ pos part) (pos 0) all m s (times_most z part all m h l) in let e = floor_div-zero all in omega (arith, ints)
+
+pub floor_div-part_least : (z : ℤ) (part all m : ℕ) → part ≤ all → 0 < all → neg_ℤ (pos m) ≤ℤ z → neg_ℤ (pos m) ≤ℤ floor_div (z *ℤ pos part) all
+floor_div-part_least z part all m h s l = let f = floor_div-at_most (pos 0) (z *ℤ pos part) all m s (times_least z part all m h l) in let e = floor_div-zero all in omega (arith, ints)

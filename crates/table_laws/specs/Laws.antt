@@ -1,0 +1,46 @@
+-- How fast the values of a table may change from one speed to the next.
+use Rattle.std.specs.Prelude.{ℕ, ◌*◌, ◌+◌, ◌^◌, ◌≤◌, ◌<◌, ℤ, pos, neg_ℤ, ◌+ℤ◌, ◌≤ℤ◌, List, length}
+use Rattle.run_rules.specs.Grids.{row, top_of, band_width}
+use Rattle.table_laws.specs.declared.Law.{Law}
+use Rattle.table_laws.specs.declared.Law.TheVariants.{Drop, Climb}
+use Rattle.table_laws.specs.declared.LawFault.{LawFault}
+use Rattle.table_laws.specs.declared.LawFault.TheVariants.{Broken}
+
+-- over that many squared speeds a value drops by at most `per` for each, or climbs by at most 1 for each
+abbrev pub MovesWithin : Law → ℕ → ℤ → ℤ → Type 0
+MovesWithin (Drop per) count here there = here ≤ℤ (there +ℤ pos (per * count))
+MovesWithin Climb count here there = there ≤ℤ (here +ℤ pos count)
+
+-- the values keep the law from k km/h to the next
+abbrev pub KeepsLawAt : Law → List ℤ → ℕ → Type 0
+KeepsLawAt law rows k = MovesWithin law (band_width k) (row rows k) (row rows (k + 1))
+
+-- they keep it up to the top speed
+abbrev pub KeepsLaw : Law → List ℤ → Type 0
+KeepsLaw law rows = (k : ℕ) → k < top_of rows → KeepsLawAt law rows k
+
+-- k km/h is the first speed from which they break it
+pub record IsFirstBreak (law : Law) (rows : List ℤ) (k : ℕ) : Type 0 where
+  pub below_top : k < top_of rows
+  pub breaks : KeepsLawAt law rows k → ⊥
+  pub first : (j : ℕ) → j < k → KeepsLawAt law rows j
+
+abbrev pub broken_at : LawFault → ℕ
+broken_at (Broken k) = k
+
+-- the values of 2 to 501 speeds, each of at most 10^15 either way
+pub record IsTable (rows : List ℤ) : Type 0 where
+  pub some : 2 ≤ length rows
+  pub few : length rows ≤ 501
+  pub most : (k : ℕ) → k ≤ top_of rows → row rows k ≤ℤ pos (10 ^ 15)
+  pub least : (k : ℕ) → k ≤ top_of rows → neg_ℤ (pos (10 ^ 15)) ≤ℤ row rows k
+
+-- what contracts see of bands: the values by whole km/h, and their law
+pub record Table : Type 0 where
+  pub rows : List ℤ
+  pub law : Law
+
+-- a table that keeps its law
+pub record IsLawful (table : Table) : Type 0 where
+  pub in_range : IsTable table.rows
+  pub lawful : KeepsLaw table.law table.rows

@@ -1,0 +1,136 @@
+//! Tables of values by speed under a law, which bounds how fast the values may change. Under their
+//! laws a train that is faster now is no slower at the next point, whether it accelerates or brakes.
+#![tactic(auto)]
+
+ghost use Rattle.std.specs.Prelude.{◌≡◌, ℕ, ◌+◌, ◌*◌, ◌^◌, ◌<◌, ◌≤◌, pos, neg_ℤ, ◌≤ℤ◌, ◌↔◌, IsTrue, IfOk, OnOk, IfErr};
+ghost use Rattle.run_rules.specs.Grids.{row, top_of, band_width, value_at};
+ghost use Rattle.run_rules.specs.Speeds.{squared};
+ghost use Rattle.table_laws.specs.Laws.{IsTable, IsLawful, IsFirstBreak, KeepsLaw, MovesWithin, broken_at};
+
+mod grid;
+
+use grid::value_in;
+use std::marker::Model;
+
+/// How fast the values of a table may change from one squared speed to the next.
+#[derive(Clone, Copy, Debug, PartialEq, Eq)]
+pub enum Law {
+    /// They drop by at most `per`.
+    Drop {
+        /// The greatest drop.
+        per: u32,
+    },
+    /// They climb by at most 1.
+    Climb,
+}
+
+/// Why there is no table.
+#[derive(Debug, Drop)]
+pub enum LawFault {
+    /// The values break the law first from `k` km/h to the next.
+    Broken {
+        /// The speed in km/h.
+        k: u32,
+    },
+}
+
+/// Values by speed, given at each whole km/h, which keep a law.
+#[derive(Drop)]
+pub struct Bands {
+    rows: Vec<i64>,
+    law: Law,
+}
+
+impl Model for Bands {
+    ghost use Rattle.table_laws.specs.Laws.{Table, IsLawful};
+
+    ghost Value = { Table };
+
+    ghost view = { λ b. record { rows = b.rows.items; law = b.law } };
+
+    ghost invariant = { λ b. IsLawful (record { rows = b.rows.items; law = b.law }) };
+}
+
+impl Bands {
+    /// The table with the value `rows[k]` at `k` km/h, or the first speed from which the values
+    /// break the law.
+    pub fn new(rows: Vec<i64>, law: Law) -> Result<Bands, LawFault>
+        requires { IsTable rows.items }
+        ensures ok { IfOk result (λ bands. bands ≡ record { rows = rows.items; law = law }) }
+        ensures kept { OnOk result (KeepsLaw law rows.items) }
+        ensures broken { IfErr result (λ fault. IsFirstBreak law rows.items (broken_at fault)) }
+    {
+        let top = rows.len() - 1;
+        for k in 0..top {
+            if !keeps_law(law, rows[k], rows[k + 1], k as u32) {
+                return Err(LawFault::Broken { k: k as u32 });
+            }
+        }
+        Ok(Bands { rows, law })
+    }
+
+    /// The top speed in km/h.
+    pub fn top(&self) -> u32
+        ensures top { result ≡ top_of self.now.rows }
+        ensures kept { IsLawful self.now }
+    {
+        (self.rows.len() - 1) as u32
+    }
+
+    /// The law of the table. The values keep it at each squared speed, also between whole km/h.
+    pub fn law(&self) -> Law
+        ensures law { result ≡ self.now.law }
+        ensures kept { IsLawful self.now }
+        ensures between {
+            (u : ℕ) → u < squared (top_of self.now.rows)
+                → MovesWithin self.now.law 1 (value_at self.now.rows u) (value_at self.now.rows (u + 1))
+        }
+    {
+        self.law
+    }
+
+    /// The value at a whole number of km/h.
+    pub fn row(&self, k: u32) -> i64
+        requires { k ≤ top_of self.now.rows }
+        ensures value { result ≡ row self.now.rows k }
+        ensures kept { IsLawful self.now }
+    {
+        self.rows[k as usize]
+    }
+
+    /// The value at a squared speed in (0.01 km/h)². Between two whole km/h it lies on the way from
+    /// one value to the next, rounded down.
+    pub fn at(&self, u: u32) -> i64
+        requires { u ≤ squared (top_of self.now.rows) }
+        ensures value { result ≡ value_at self.now.rows u }
+        ensures most { result ≤ℤ pos (10 ^ 15) }
+        ensures least { neg_ℤ (pos (10 ^ 15)) ≤ℤ result }
+        ensures kept { IsLawful self.now }
+    {
+        value_in(&self.rows, u)
+    }
+}
+
+// Whether the values keep the law from `k` km/h to the next.
+fn keeps_law(law: Law, low: i64, high: i64, k: u32) -> bool
+    requires low_most { low ≤ℤ pos (10 ^ 15) }
+    requires low_least { neg_ℤ (pos (10 ^ 15)) ≤ℤ low }
+    requires high_most { high ≤ℤ pos (10 ^ 15) }
+    requires high_least { neg_ℤ (pos (10 ^ 15)) ≤ℤ high }
+    requires slow { k ≤ 500 }
+    ensures { IsTrue result ↔ MovesWithin law (band_width k) low high }
+{
+    match law {
+        Law::Drop { per } => low - high <= room_of(k, per) as i64,
+        Law::Climb => high - low <= room_of(k, 1) as i64,
+    }
+}
+
+// How far a value may change from `k` km/h to the next, at `per` for each squared speed.
+fn room_of(k: u32, per: u32) -> u64
+    requires { k ≤ 500 }
+    ensures room { result ≡ per * band_width k }
+    ensures small { result < 10 ^ 17 }
+{
+    u64::from(per) * u64::from(10_000 * (2 * k + 1))
+}
