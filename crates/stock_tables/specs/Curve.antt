@@ -15,10 +15,14 @@ is_rising [] = true
 is_rising (x ∷ []) = true
 is_rising (x ∷ y ∷ xs) = nat_lt x y && is_rising (y ∷ xs)
 
+-- the speed of the last row
+abbrev pub last_speed : List Row → ℕ
+last_speed rows = slice_index (speeds rows) (length rows - 1)
+
 -- whether there are two rows or more, from a speed of 0 to the top speed, at rising speeds
 abbrev pub are_in_order : ℕ → List Row → Bool
 are_in_order top rows =
-    nat_le 2 (length rows) && (slice_index (speeds rows) 0 == 0) && (slice_index (speeds rows) (length rows - 1) == top) && is_rising (speeds rows)
+    nat_le 2 (length rows) && (slice_index (speeds rows) 0 == 0) && (last_speed rows == top) && is_rising (speeds rows)
 
 -- the value at a speed on the way from one row to the next, rounded down
 abbrev pub value_on : Row × Row → ℕ → ℤ
@@ -51,3 +55,9 @@ pub record IsCurve (rows : List Row) : Type 0 where
   pub starts : slice_index (speeds rows) 0 ≡ 0
   pub rises : (i : ℕ) → i + 1 < length rows → slice_index (speeds rows) i < slice_index (speeds rows) (i + 1)
   pub ranges : All IsRow rows
+
+-- the place of a row from which on the values at that speed and above it are those of the whole curve
+pub record IsPassed (rows : List Row) (place kmh : ℕ) : Type 0 where
+  pub on_curve : place + 1 < length rows
+  pub passed : slice_index (speeds rows) place ≤ kmh
+  pub same : (k : ℕ) → kmh ≤ k → value_at (drop place rows) k ≡ value_at rows k

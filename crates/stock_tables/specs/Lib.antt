@@ -1,3 +1,4 @@
 pub mod Curve
 pub mod Key
+pub mod Motion
 pub mod Steps

@@ -1,8 +1,9 @@
 //! Curves: values by speed, straight between the rows of a table.
 
-ghost use Rattle.std.specs.Prelude.{◌≡◌, Some, None, if◌then◌else◌, All};
-ghost use Rattle.stock_tables.specs.Curve.{IsCurve, IsRow, are_in_order, is_rising, speeds};
+ghost use Rattle.std.specs.Prelude.{◌≡◌, ◌+◌, ◌≤◌, ◌<◌, Some, None, if◌then◌else◌, All, IfOk, slice_index};
+ghost use Rattle.stock_tables.specs.Curve.{IsCurve, IsPassed, IsRow, are_in_order, is_rising, last_speed, speeds, value_on, values_to};
 
+use std::alloc::{AllocError, Global};
 use std::marker::Model;
 
 /// The value of a table at a whole speed in km/h.
@@ -50,6 +51,49 @@ fn are_in_order(rows: &[Row], top: u32) -> bool
     rows[0].kmh == 0 && rows[rows.len() - 1].kmh == top && is_rising(rows)
 }
 
+// The value at a speed on the way from one row to the next.
+fn value_on(here: Row, there: Row, kmh: u32) -> i64
+    requires here { IsRow here }
+    requires there { IsRow there }
+    requires from { here.kmh ≤ kmh }
+    requires to { kmh ≤ there.kmh }
+    requires rises { here.kmh < there.kmh }
+    ensures { result ≡ value_on (here, there) kmh }
+{
+    let rise = i64::from(there.value) - i64::from(here.value);
+    let part = rise * i64::from(kmh - here.kmh);
+    i64::from(here.value) + part.div_euclid(i64::from(there.kmh - here.kmh))
+}
+
+// The place of the row from which the way to the next row leads past a speed, at `from` or behind it.
+fn place_of(rows: &[Row], from: usize, kmh: u32) -> usize
+    requires from { IsPassed rows.now from kmh }
+    requires on_curve { kmh ≤ last_speed rows.now }
+    ensures place { IsPassed rows.now result kmh }
+    ensures next { kmh ≤ slice_index (speeds rows.now) (result + 1) }
+{
+    let mut place = from;
+    while place + 2 < rows.len() && rows[place + 1].kmh < kmh {
+        place += 1;
+    }
+    place
+}
+
+// The values of a curve at 0, 1, .. up to its top speed.
+fn values_to(alloc: Global, rows: &[Row], top: u32) -> Result<Vec<i64>, AllocError>
+    requires curve { IsCurve rows.now }
+    requires top { last_speed rows.now ≡ top }
+    ensures { IfOk result (λ v. v.items ≡ values_to top rows.now) }
+{
+    let mut values = Vec::new(alloc);
+    let mut place = 0;
+    for kmh in 0..top + 1 {
+        place = place_of(rows, place, kmh);
+        values.push(value_on(rows[place], rows[place + 1], kmh))?;
+    }
+    Ok(values)
+}
+
 impl Curve {
     /// The curve of these rows, where they are in order up to the top speed.
     pub(crate) fn new(rows: Vec<Row>, top: u32) -> Option<Curve>
@@ -61,5 +105,14 @@ impl Curve {
         } else {
             None
         }
+    }
+
+    /// The values at 0, 1, .. up to the top speed, which is that of the last row.
+    pub(crate) fn values_to(&self, alloc: Global, top: u32) -> Result<Vec<i64>, AllocError>
+        requires { last_speed self.now ≡ top }
+        ensures value { IfOk result (λ v. v.items ≡ values_to top self.now) }
+        ensures kept { IsCurve self.now }
+    {
+        values_to(alloc, &self.rows, top)
     }
 }

@@ -4,6 +4,7 @@
 
 mod curve;
 mod document;
+mod motion;
 
 ghost use Rattle.std.specs.Prelude.{◌≡◌};
 ghost use Rattle.stock_tables.specs.declared.StockFault.TheVariants.{Memory as OutOfMemory};
