@@ -81,10 +81,8 @@ impl Bands {
     pub fn law(&self) -> Law
         ensures law { result ≡ self.now.law }
         ensures kept { IsLawful self.now }
-        ensures between {
-            (u : ℕ) → u < squared (top_of self.now.rows)
-                → MovesWithin self.now.law 1 (value_at self.now.rows u) (value_at self.now.rows (u + 1))
-        }
+        ensures between { (u : ℕ) → u < squared (top_of self.now.rows)
+            → MovesWithin self.now.law 1 (value_at self.now.rows u) (value_at self.now.rows (u + 1)) }
     {
         self.law
     }
