@@ -1,16 +1,20 @@
 -- Rows in order.
-use Rattle.std.proofs.Common.{◌≡◌, ℕ, ◌+◌, ◌-◌, ◌<◌, ◌≤◌, zero, suc, Bool, true, false, ◌&&◌, ◌==◌, nat_lt, nat_le, List, [], ◌∷◌, All, length, map, get_or, add-one, refl, sym, arith, inl, inr}
+use Rattle.std.proofs.Common.{◌≡◌, ℕ, ◌+◌, ◌-◌, ◌<◌, ◌≤◌, zero, suc, Bool, true, false, ◌&&◌, ◌==◌, nat_lt, nat_le, List, [], ◌∷◌, All, length, map, get_or, drop, add-one, refl, sym, ap, ◌∙◌, arith, inl, inr}
 use Rattle.std.proofs.lemmas.Bool.{and_parts, cases_Bool, cases_eq}
 use Rattle.std.proofs.lemmas.Bool.Decides.{nat_tests}
-use Rattle.std.proofs.lemmas.List.{get_or-map, length-map}
+use Rattle.std.proofs.lemmas.List.{drop_more, get_or-map, length-map}
 use Rattle.stock_tables.specs.declared.curve.Row.{Row}
-use Rattle.stock_tables.specs.Curve.{IsCurve, IsRow, are_in_order, is_rising, speeds}
+use Rattle.stock_tables.specs.Curve.{IsCurve, IsPassed, IsRow, are_in_order, is_rising, speeds, value_at, value_on}
 
 nat_lt-true : (x y : ℕ) → nat_lt x y ≡ true → x < y
 nat_lt-true x y e = grind (arith, nat_tests, e)
 
 true-nat_lt : (x y : ℕ) → x < y → nat_lt x y ≡ true
 true-nat_lt x y h = grind (arith, nat_tests, h)
+
+and-false : (a : Bool) → (a && false) ≡ false
+and-false true = refl
+and-false false = refl
 
 -- each of the first n numbers is below the next
 abbrev pub RiseTo : ℕ → List ℕ → Type 0
@@ -91,3 +95,54 @@ last-ordered top rows e =
     let rise = both (enough && first && last) (is_rising (speeds rows)) e in
     let ends = both (enough && first) last rise.0 in
     grind (arith, nat_tests, ends)
+
+-- a row that lies behind a speed says nothing there
+find-behind : (a b : Row) (rows : List Row) (k : ℕ) → b.kmh < k → value_at (a ∷ b ∷ rows) k ≡ value_at (b ∷ rows) k
+find-behind a b rows k h =
+    let far : nat_le k b.kmh ≡ false = grind (arith, nat_tests, h) in
+    rw (far, and-false (nat_le a.kmh k)) refl
+
+-- between the first two rows
+find-here : (a b : Row) (rows : List Row) (k : ℕ) → a.kmh ≤ k → k ≤ b.kmh → value_at (a ∷ b ∷ rows) k ≡ value_on (a, b) k
+find-here a b rows k h g =
+    let past : nat_le a.kmh k ≡ true = grind (arith, nat_tests, h) in
+    let near : nat_le k b.kmh ≡ true = grind (arith, nat_tests, g) in
+    rw (past, near) refl
+
+-- what is left of rows from a place on, where another row follows
+drop-two : (rows : List Row) (i : ℕ) → i + 1 < length rows → drop i rows ≡ get_or rows i no_row ∷ get_or rows (i + 1) no_row ∷ drop (i + 1 + 1) rows
+drop-two rows i h = drop_more rows i no_row (omega arith) ∙ ap (λ (q : List Row). get_or rows i no_row ∷ q) (drop_more rows (i + 1) no_row h)
+
+pub IsPassed-next : (rows : List Row) (place kmh : ℕ) → IsPassed rows place kmh → place + 2 < length rows → (get_or rows (place + 1) no_row).kmh < kmh → IsPassed rows (place + 1) kmh
+IsPassed-next rows place kmh p more behind = record {
+  on_curve = omega arith;
+  passed = rw (speeds-at rows (place + 1) (omega arith)) (omega arith);
+  same = λ k h.
+      let rest = find-behind (get_or rows place no_row) (get_or rows (place + 1) no_row) (drop (place + 1 + 1) rows) k (omega arith) in
+      let here = ap (λ (q : List Row). value_at q k) (drop-two rows place (omega arith)) in
+      let next = ap (λ (q : List Row). value_at q k) (drop_more rows (place + 1) no_row (omega arith)) in
+      next ∙ sym rest ∙ sym here ∙ p.same k h;
+}
+
+pub IsPassed-later : (rows : List Row) (place kmh later : ℕ) → IsPassed rows place kmh → kmh ≤ later → IsPassed rows place later
+IsPassed-later rows place kmh later p h = record { on_curve = p.on_curve; passed = omega (arith, p.passed); same = λ k g. p.same k (omega arith) }
+
+pub IsPassed-start : (rows : List Row) → IsCurve rows → IsPassed rows 0 0
+IsPassed-start rows c = record { on_curve = omega (arith, c.some); passed = omega (arith, c.starts); same = λ k h. refl }
+
+-- the value at a speed before the row that follows the place
+pub value_at-passed : (rows : List Row) (place kmh : ℕ) → IsPassed rows place kmh → kmh ≤ get_or (speeds rows) (place + 1) 0
+    → value_at rows kmh ≡ value_on (get_or rows place no_row, get_or rows (place + 1) no_row) kmh
+value_at-passed rows place kmh p near =
+    let a = get_or rows place no_row in
+    let b = get_or rows (place + 1) no_row in
+    let passed = rw (speeds-at rows place (omega (arith, p.on_curve))) at p.passed in
+    let near' = rw (speeds-at rows (place + 1) p.on_curve) at near in
+    sym (p.same kmh (omega arith)) ∙ ap (λ (q : List Row). value_at q kmh) (drop-two rows place p.on_curve) ∙ find-here a b (drop (place + 1 + 1) rows) kmh passed near'
+
+-- the speed of the last row
+pub last-slow : (rows : List Row) → IsCurve rows → get_or (speeds rows) (length rows - 1) 0 ≤ 500
+last-slow rows c =
+    let n = length rows - 1 in
+    let some = c.some in
+    rw (speeds-at rows n (omega arith)) (c.ranges n no_row (omega arith)).slow

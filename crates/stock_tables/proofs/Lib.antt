@@ -1,2 +1,3 @@
 pub mod CurveFacts
 pub mod ElementFacts
+pub mod RowFacts

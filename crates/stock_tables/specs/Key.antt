@@ -5,6 +5,7 @@ use Rattle.unit_rules.specs.Numeral.{within}
 use Rattle.toml.specs.Data.{Data, Items, no_items, item, as_integer, as_array}
 use Rattle.stock_tables.specs.declared.curve.Row.{Row}
 use Rattle.stock_tables.specs.declared.document.KeyFault.{KeyFault}
+use Rattle.stock_tables.specs.declared.motion.Resistance.{Resistance}
 use Rattle.stock_tables.specs.declared.document.KeyFault.TheVariants.{Rule}
 use Rattle.stock_tables.specs.Curve.{are_in_order}
 use Rattle.stock_tables.specs.Steps.{◌>>=◌}
@@ -48,3 +49,21 @@ rows_in low high top key = do
   pairs ← ok_or (option_and_then (each pair_of) (elements value)) (Rule 2)
   rows ← ok_or (each (row_in low high) pairs) (Rule 3)
   if are_in_order top rows then Ok rows else Err (Rule 4)
+
+-- three integers
+abbrev pub three_in : List Data → Option (ℤ × (ℤ × ℤ))
+three_in (a ∷ b ∷ c ∷ []) = option_zip (as_integer a) (option_zip (as_integer b) (as_integer c))
+three_in _ = None
+
+-- the resistance of three numbers, where each is in its range
+abbrev pub resistance_from : ℤ × (ℤ × ℤ) → Option Resistance
+resistance_from three =
+    option_map (λ r. record { constant = r.0; linear = r.1.0; quadratic = r.1.1 })
+    (option_zip (within 0 1000000 three.0) (option_zip (within 0 10000000 three.1.0) (within 0 1000000 three.1.1)))
+
+-- the resistance that a key holds
+abbrev pub resistance_in : Option Data → Result Resistance KeyFault
+resistance_in key = do
+  value ← ok_or key (Rule 1)
+  three ← ok_or (option_and_then three_in (elements value)) (Rule 2)
+  ok_or (resistance_from three) (Rule 3)

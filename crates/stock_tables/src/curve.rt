@@ -1,6 +1,7 @@
 //! Curves: values by speed, straight between the rows of a table.
 
-ghost use Rattle.std.specs.Prelude.{◌≡◌, ◌+◌, ◌≤◌, ◌<◌, Some, None, if◌then◌else◌, All, IfOk, slice_index};
+ghost use Rattle.std.specs.Prelude.{◌≡◌, ◌+◌, ◌≤◌, ◌<◌, pos, ◌*ℤ◌, unsigned_abs, Some, None, if◌then◌else◌, All, IfOk, slice_index};
+ghost use Rattle.unit_rules.specs.Quotients.{floor_div};
 ghost use Rattle.stock_tables.specs.Curve.{IsCurve, IsPassed, IsRow, are_in_order, is_rising, last_speed, speeds, value_on, values_to};
 
 use std::alloc::{AllocError, Global};
@@ -51,6 +52,17 @@ fn are_in_order(rows: &[Row], top: u32) -> bool
     rows[0].kmh == 0 && rows[rows.len() - 1].kmh == top && is_rising(rows)
 }
 
+// That many parts of all of a rise, rounded down.
+fn part_of(rise: i64, part: u32, all: u32) -> i64
+    requires small { unsigned_abs rise ≤ 3000000 }
+    requires inside { part ≤ all }
+    requires some { 0 < all }
+    requires few { all ≤ 500 }
+    ensures { result ≡ floor_div (rise *ℤ pos part) all }
+{
+    (rise * i64::from(part)).div_euclid(i64::from(all))
+}
+
 // The value at a speed on the way from one row to the next.
 fn value_on(here: Row, there: Row, kmh: u32) -> i64
     requires here { IsRow here }
@@ -61,8 +73,7 @@ fn value_on(here: Row, there: Row, kmh: u32) -> i64
     ensures { result ≡ value_on (here, there) kmh }
 {
     let rise = i64::from(there.value) - i64::from(here.value);
-    let part = rise * i64::from(kmh - here.kmh);
-    i64::from(here.value) + part.div_euclid(i64::from(there.kmh - here.kmh))
+    i64::from(here.value) + part_of(rise, kmh - here.kmh, there.kmh - here.kmh)
 }
 
 // The place of the row from which the way to the next row leads past a speed, at `from` or behind it.

@@ -5,10 +5,12 @@ ghost use Rattle.unit_rules.specs.Memory.{Gives};
 ghost use Rattle.toml.specs.Data.{get_member};
 ghost use Rattle.toml.specs.View.{table_view, view};
 ghost use Rattle.stock_tables.specs.Curve.{IsRow};
-ghost use Rattle.stock_tables.specs.Key.{each, elements, number_in, pair_of, row_in, rows_in};
+ghost use Rattle.stock_tables.specs.Key.{each, elements, number_in, pair_of, resistance_from, resistance_in, row_in, rows_in, three_in};
+ghost use Rattle.stock_tables.specs.Motion.{IsResistance};
 ghost use Rattle.stock_tables.specs.declared.document.KeyFault.TheVariants.{Memory as OutOfMemory};
 
 use crate::curve::{Curve, Row};
+use crate::motion::Resistance;
 use std::alloc::{AllocError, AllocFailed, Global};
 use toml::{Table, Value};
 use unit_rules::within;
@@ -153,4 +155,51 @@ fn rows(
         }
     }
     Ok(Some(rows))
+}
+
+// An array of three integers.
+fn three(value: &Value) -> Option<(i64, (i64, i64))>
+    ensures { result ≡ option_and_then three_in (elements (view value.now)) }
+{
+    match elements(value)? {
+        [first, second, third] => {
+            let first = first.as_integer()?;
+            let second = second.as_integer()?;
+            let third = third.as_integer()?;
+            Some((first, (second, third)))
+        }
+        _ => None,
+    }
+}
+
+// The resistance of three numbers in their ranges.
+fn resistance_from(three: (i64, (i64, i64))) -> Option<Resistance>
+    ensures value { result ≡ resistance_from three }
+    ensures ranges { IfSome result IsResistance }
+{
+    let constant = within(0, 1_000_000, three.0)?;
+    let linear = within(0, 10_000_000, three.1.0)?;
+    let quadratic = within(0, 1_000_000, three.1.1)?;
+    Some(Resistance {
+        constant,
+        linear,
+        quadratic,
+    })
+}
+
+/// The resistance at a key.
+pub(crate) fn resistance_at(document: &Table, key: &str) -> Result<Resistance, KeyFault>
+    ensures value { result ≡ resistance_in (get_member key.now (table_view document.now)) }
+    ensures ranges { IfOk result IsResistance }
+{
+    let Some(value) = find(document, key) else {
+        return Err(KeyFault::Rule(1));
+    };
+    let Some(three) = three(value) else {
+        return Err(KeyFault::Rule(2));
+    };
+    match resistance_from(three) {
+        Some(resistance) => Ok(resistance),
+        None => Err(KeyFault::Rule(3)),
+    }
 }

@@ -4,6 +4,7 @@
 
 mod curve;
 mod document;
+mod keys;
 mod motion;
 
 ghost use Rattle.std.specs.Prelude.{◌≡◌};
