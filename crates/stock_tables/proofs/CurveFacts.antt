@@ -1,10 +1,13 @@
 -- Rows in order.
-use Rattle.std.proofs.Common.{◌≡◌, ℕ, ◌+◌, ◌-◌, ◌<◌, ◌≤◌, zero, suc, Bool, true, false, ◌&&◌, ◌==◌, nat_lt, nat_le, List, [], ◌∷◌, All, length, map, get_or, drop, add-one, refl, sym, ap, ◌∙◌, arith, inl, inr}
+use Rattle.std.proofs.Common.{◌≡◌, ℕ, ◌+◌, ◌-◌, ◌<◌, ◌≤◌, zero, suc, Bool, true, false, ◌&&◌, ◌==◌, nat_lt, nat_le, List, [], ◌∷◌, All, length, map, get_or, drop, add-one, refl, sym, ap, ◌∙◌, arith, inl, inr, ℤ, pos, ◌+ℤ◌, ◌-ℤ◌, ◌*ℤ◌, to_z, of_z, w64}
+use Rattle.std.proofs.lemmas.Int.{ints}
+use Rattle.unit_rules.specs.Quotients.{floor_div}
+use Rattle.run_rules.proofs.GridFacts.{value_between-most, value_between-least}
 use Rattle.std.proofs.lemmas.Bool.{and_parts, cases_Bool, cases_eq}
 use Rattle.std.proofs.lemmas.Bool.Decides.{nat_tests}
 use Rattle.std.proofs.lemmas.List.{drop_more, get_or-map, length-map}
 use Rattle.stock_tables.specs.declared.curve.Row.{Row}
-use Rattle.stock_tables.specs.Curve.{IsCurve, IsPassed, IsRow, are_in_order, is_rising, speeds, value_at, value_on}
+use Rattle.stock_tables.specs.Curve.{IsCurve, IsCurveTo, IsPassed, IsRow, are_in_order, is_rising, speeds, value_at, value_on}
 
 nat_lt-true : (x y : ℕ) → nat_lt x y ≡ true → x < y
 nat_lt-true x y e = grind (arith, nat_tests, e)
@@ -71,30 +74,24 @@ not_rising rows n some within falls =
 both : (a b : Bool) → (a && b) ≡ true → (a ≡ true) × (b ≡ true)
 both a b e = and_parts a b e
 
--- rows in order up to a top speed are a curve
-pub IsCurve-ordered : (top : ℕ) (rows : List Row) → are_in_order top rows ≡ true → All IsRow rows → IsCurve rows
-IsCurve-ordered top rows e ranges =
-    let enough = nat_le 2 (length rows) in
-    let first = (get_or (speeds rows) 0 0 == 0) in
-    let last = (get_or (speeds rows) (length rows - 1) 0 == top) in
-    let rise = both (enough && first && last) (is_rising (speeds rows)) e in
-    let starts = both (enough && first) last rise.0 in
-    let some = both enough first starts.0 in
-    record {
-      some = grind (arith, nat_tests, some);
-      starts = grind (arith, nat_tests, some);
-      rises = λ i h. rw add-one (is_rising-at (speeds rows) rise.1 i (omega (arith, length-speeds rows)));
-      ranges = ranges;
-    }
-
-pub last-ordered : (top : ℕ) (rows : List Row) → are_in_order top rows ≡ true → get_or (speeds rows) (length rows - 1) 0 ≡ top
-last-ordered top rows e =
+-- rows in order are a curve up to the top speed
+pub IsCurveTo-ordered : (top : ℕ) (rows : List Row) → are_in_order top rows ≡ true → All IsRow rows → IsCurveTo top rows
+IsCurveTo-ordered top rows e ranges =
     let enough = nat_le 2 (length rows) in
     let first = (get_or (speeds rows) 0 0 == 0) in
     let last = (get_or (speeds rows) (length rows - 1) 0 == top) in
     let rise = both (enough && first && last) (is_rising (speeds rows)) e in
     let ends = both (enough && first) last rise.0 in
-    grind (arith, nat_tests, ends)
+    let some = both enough first ends.0 in
+    record {
+      curve = record {
+        some = grind (arith, nat_tests, some);
+        starts = grind (arith, nat_tests, some);
+        rises = λ i h. rw add-one (is_rising-at (speeds rows) rise.1 i (omega (arith, length-speeds rows)));
+        ranges = ranges;
+      };
+      ends = grind (arith, nat_tests, ends);
+    }
 
 -- a row that lies behind a speed says nothing there
 find-behind : (a b : Row) (rows : List Row) (k : ℕ) → b.kmh < k → value_at (a ∷ b ∷ rows) k ≡ value_at (b ∷ rows) k
@@ -146,3 +143,18 @@ last-slow rows c =
     let n = length rows - 1 in
     let some = c.some in
     rw (speeds-at rows n (omega arith)) (c.ranges n no_row (omega arith)).slow
+
+-- the value on the way from one row to the next, as the code adds it up
+pub value_on-sum : (a b : Row) (kmh : ℕ) (x y z p : ℤ) → IsRow a → IsRow b → a.kmh ≤ kmh → kmh ≤ b.kmh → a.kmh < b.kmh → x ≡ pos b.value → y ≡ pos a.value → z ≡ pos a.value
+    → p ≡ floor_div (to_z w64 (of_z w64 (to_z w64 (of_z w64 x) -ℤ to_z w64 (of_z w64 y))) *ℤ pos (kmh - a.kmh)) (b.kmh - a.kmh)
+    → to_z w64 (of_z w64 (to_z w64 (of_z w64 z) +ℤ to_z w64 (of_z w64 p))) ≡ value_on (a, b) kmh
+value_on-sum a b kmh x y z p ra rb from to rises ex ey ez ep =
+    let low = pos a.value in
+    let high = pos b.value in
+    let a_small = ra.small in
+    let b_small = rb.small in
+    let rise : to_z w64 (of_z w64 (to_z w64 (of_z w64 x) -ℤ to_z w64 (of_z w64 y))) ≡ high -ℤ low = omega (arith, ints) in
+    let part = rw rise at ep in
+    let most = value_between-most low high (pos 3000000) (kmh - a.kmh) (b.kmh - a.kmh) (omega arith) (omega arith) (omega (arith, ints)) (omega (arith, ints)) in
+    let least = value_between-least low high (pos 0) (kmh - a.kmh) (b.kmh - a.kmh) (omega arith) (omega arith) (omega (arith, ints)) (omega (arith, ints)) in
+    omega (arith, ints)

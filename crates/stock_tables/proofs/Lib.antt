@@ -1,3 +1,6 @@
 pub mod CurveFacts
+pub mod DocumentFacts
 pub mod ElementFacts
+pub mod KeyFacts
+pub mod LawFacts
 pub mod RowFacts

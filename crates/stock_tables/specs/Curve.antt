@@ -56,6 +56,11 @@ pub record IsCurve (rows : List Row) : Type 0 where
   pub rises : (i : ℕ) → i + 1 < length rows → slice_index (speeds rows) i < slice_index (speeds rows) (i + 1)
   pub ranges : All IsRow rows
 
+-- a curve up to a top speed
+pub record IsCurveTo (top : ℕ) (rows : List Row) : Type 0 where
+  pub curve : IsCurve rows
+  pub ends : last_speed rows ≡ top
+
 -- the place of a row from which on the values at that speed and above it are those of the whole curve
 pub record IsPassed (rows : List Row) (place kmh : ℕ) : Type 0 where
   pub on_curve : place + 1 < length rows

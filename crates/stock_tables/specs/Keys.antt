@@ -1,8 +1,7 @@
 -- The values of the keys of a stock file.
-use Rattle.std.specs.Prelude.{ℕ, ◌≤◌, ◌≡◌, All}
-use Rattle.stock_tables.specs.declared.curve.Row.{Row}
+use Rattle.std.specs.Prelude.{◌≤◌, All}
 use Rattle.stock_tables.specs.declared.keys.Keys.{Keys}
-use Rattle.stock_tables.specs.Curve.{IsCurve, last_speed}
+use Rattle.stock_tables.specs.Curve.{IsCurveTo}
 use Rattle.stock_tables.specs.Motion.{IsResistance}
 
 -- values in their ranges, and curves up to the top speed
@@ -14,9 +13,7 @@ pub record AreKeys (keys : Keys) : Type 0 where
   pub long : keys.length ≤ 5000
   pub slow : 1 ≤ keys.top
   pub fast : keys.top ≤ 500
-  pub effort : IsCurve keys.effort
-  pub effort_top : last_speed keys.effort ≡ keys.top
+  pub effort : IsCurveTo keys.top keys.effort
   pub resistance : IsResistance keys.resistance
-  pub brake : IsCurve keys.brake
-  pub brake_top : last_speed keys.brake ≡ keys.top
+  pub brake : IsCurveTo keys.top keys.brake
   pub brake_strong : All (λ r. 50 ≤ r.value) keys.brake

@@ -2,6 +2,7 @@
 use Rattle.std.specs.Prelude.{ℕ, ◌≤◌, ◌≡◌, pos, ◌≤ℤ◌}
 use Rattle.run_rules.specs.Grids.{row, top_of}
 use Rattle.table_laws.specs.Laws.{IsLawful, Table}
+use Rattle.table_laws.specs.declared.Law.{Law}
 use Rattle.table_laws.specs.declared.Law.TheVariants.{Drop, Climb}
 
 -- a stock: its mass and moved mass in kg, its length in metres, its top speed in km/h, and its tables of push and braking
@@ -13,7 +14,17 @@ pub record StockTable : Type 0 where
   pub push : Table
   pub brake : Table
 
--- a stock in its ranges, with lawful tables up to its top speed, of which the braking takes 12960 or more at each speed
+-- a lawful table up to a top speed
+pub record IsTableTo (top : ℕ) (law : Law) (table : Table) : Type 0 where
+  pub ends : top_of table.rows ≡ top
+  pub under : table.law ≡ law
+  pub kept : IsLawful table
+
+-- the braking takes 12960 or more at each speed
+abbrev pub IsStrong : ℕ → Table → Type 0
+IsStrong top brake = (k : ℕ) → k ≤ top → pos 12960 ≤ℤ row brake.rows k
+
+-- a stock in its ranges, with its tables up to its top speed: the push may drop by the moved mass, and the braking climb by 1
 pub record IsStock (s : StockTable) : Type 0 where
   pub light : 1000 ≤ s.mass
   pub heavy : s.mass ≤ 20000000
@@ -23,10 +34,6 @@ pub record IsStock (s : StockTable) : Type 0 where
   pub long : s.length ≤ 5000
   pub slow : 1 ≤ s.top
   pub fast : s.top ≤ 500
-  pub push_top : top_of s.push.rows ≡ s.top
-  pub push_law : s.push.law ≡ Drop s.moved_mass
-  pub push_lawful : IsLawful s.push
-  pub brake_top : top_of s.brake.rows ≡ s.top
-  pub brake_law : s.brake.law ≡ Climb
-  pub brake_lawful : IsLawful s.brake
-  pub brake_strong : (k : ℕ) → k ≤ s.top → pos 12960 ≤ℤ row s.brake.rows k
+  pub pushes : IsTableTo s.top (Drop s.moved_mass) s.push
+  pub brakes : IsTableTo s.top Climb s.brake
+  pub strong : IsStrong s.top s.brake

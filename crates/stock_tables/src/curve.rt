@@ -1,8 +1,8 @@
 //! Curves: values by speed, straight between the rows of a table.
 
-ghost use Rattle.std.specs.Prelude.{◌≡◌, ◌+◌, ◌≤◌, ◌<◌, pos, ◌*ℤ◌, unsigned_abs, Some, None, if◌then◌else◌, All, IfOk, slice_index};
+ghost use Rattle.std.specs.Prelude.{◌≡◌, ◌+◌, ◌≤◌, ◌<◌, pos, ◌*ℤ◌, unsigned_abs, Some, None, if◌then◌else◌, All, IfOk, IfSome, slice_index};
 ghost use Rattle.unit_rules.specs.Quotients.{floor_div};
-ghost use Rattle.stock_tables.specs.Curve.{IsCurve, IsPassed, IsRow, are_in_order, is_rising, last_speed, speeds, value_on, values_to};
+ghost use Rattle.stock_tables.specs.Curve.{IsCurve, IsCurveTo, IsPassed, IsRow, are_in_order, is_rising, last_speed, speeds, value_on, values_to};
 
 use std::alloc::{AllocError, Global};
 use std::marker::Model;
@@ -109,7 +109,8 @@ impl Curve {
     /// The curve of these rows, where they are in order up to the top speed.
     pub(crate) fn new(rows: Vec<Row>, top: u32) -> Option<Curve>
         requires { All IsRow rows.items }
-        ensures { result ≡ (if are_in_order top rows.items then Some rows.items else None) }
+        ensures value { result ≡ (if are_in_order top rows.items then Some rows.items else None) }
+        ensures curve { IfSome result (IsCurveTo top) }
     {
         if are_in_order(&rows, top) {
             Some(Curve { rows })

@@ -1,14 +1,17 @@
 //! TOML documents, and what the keys of one hold.
 
+ghost use Rattle.std.specs.Result.{result_map_both};
+ghost use Rattle.stock_tables.specs.StockFile.{document_of};
 ghost use Rattle.std.specs.Prelude.{◌≡◌, ℕ, ◌≤◌, IfOk, IfSome, Err, option_map, option_and_then, map, All};
 ghost use Rattle.unit_rules.specs.Memory.{Gives};
 ghost use Rattle.toml.specs.Data.{get_member};
 ghost use Rattle.toml.specs.View.{table_view, view};
-ghost use Rattle.stock_tables.specs.Curve.{IsRow};
+ghost use Rattle.stock_tables.specs.Curve.{IsCurveTo, IsRow};
 ghost use Rattle.stock_tables.specs.Key.{each, elements, number_in, pair_of, resistance_from, resistance_in, row_in, rows_in, three_in};
 ghost use Rattle.stock_tables.specs.Motion.{IsResistance};
 ghost use Rattle.stock_tables.specs.declared.document.KeyFault.TheVariants.{Memory as OutOfMemory};
 
+use crate::StockFault;
 use crate::curve::{Curve, Row};
 use crate::motion::Resistance;
 use std::alloc::{AllocError, AllocFailed, Global};
@@ -39,6 +42,22 @@ impl<T: Drop> From<AllocFailed<T>> for KeyFault {
     }
 }
 
+/// The document that the bytes of a file are.
+pub(crate) fn read_document(alloc: Global, bytes: &[u8]) -> Result<Table, StockFault>
+    ensures { Gives (Err StockFault.Memory) (document_of bytes.now) (result_map_both table_view (λ e. e) result) }
+{
+    match toml::table_from_slice(alloc, bytes) {
+        Ok(document) => Ok(document),
+        Err(error) => {
+            if error.is_memory() {
+                Err(StockFault::Memory)
+            } else {
+                Err(StockFault::NotToml)
+            }
+        }
+    }
+}
+
 // What a key holds.
 fn find<'a>(document: &'a Table, key: &str) -> Option<&'a Value>
     ensures { option_map (λ v. view v.now) result ≡ get_member key.now (table_view document.now) }
@@ -48,7 +67,8 @@ fn find<'a>(document: &'a Table, key: &str) -> Option<&'a Value>
 
 /// The number from `low` to `high` at a key.
 pub(crate) fn number_at(document: &Table, key: &str, low: u32, high: u32) -> Result<u32, KeyFault>
-    ensures { result ≡ number_in low high (get_member key.now (table_view document.now)) }
+    ensures value { result ≡ number_in low high (get_member key.now (table_view document.now)) }
+    ensures ranges { IfOk result (λ n. (low ≤ n) × (n ≤ high)) }
 {
     let Some(value) = find(document, key) else {
         return Err(KeyFault::Rule(1));
@@ -71,7 +91,9 @@ pub(crate) fn curve_at(
     top: u32,
 ) -> Result<Curve, KeyFault>
     requires { values.1 ≤ 3000000 }
-    ensures { Gives (Err KeyFault.Memory) (rows_in values.0 values.1 top (get_member key.now (table_view document.now))) result }
+    ensures value { Gives (Err KeyFault.Memory) (rows_in values.0 values.1 top (get_member key.now (table_view document.now))) result }
+    ensures curve { IfOk result (IsCurveTo top) }
+    ensures least { IfOk result (All (λ r. values.0 ≤ r.value)) }
 {
     let Some(value) = find(document, key) else {
         return Err(KeyFault::Rule(1));
@@ -130,6 +152,7 @@ fn row_in(pair: (i64, i64), low: u32, high: u32) -> Option<Row>
     requires { high ≤ 3000000 }
     ensures value { result ≡ row_in low high pair }
     ensures ranges { IfSome result IsRow }
+    ensures least { IfSome result (λ r. low ≤ r.value) }
 {
     let kmh = within(0, 500, pair.0)?;
     let value = within(low, high, pair.1)?;
@@ -146,6 +169,7 @@ fn rows(
     requires { high ≤ 3000000 }
     ensures value { IfOk result (λ o. option_map (λ v. v.items) o ≡ each (row_in low high) pairs.now) }
     ensures ranges { IfOk result (λ o. IfSome o (λ v. All IsRow v.items)) }
+    ensures least { IfOk result (λ o. IfSome o (λ v. All (λ r. low ≤ r.value) v.items)) }
 {
     let mut rows = Vec::new(alloc);
     for pair in pairs {

@@ -6,11 +6,17 @@ mod curve;
 mod document;
 mod keys;
 mod motion;
+mod stock;
 
-ghost use Rattle.std.specs.Prelude.{◌≡◌};
+ghost use Rattle.std.specs.Prelude.{◌≡◌, Err};
+ghost use Rattle.unit_rules.specs.Memory.{Gives};
+ghost use Rattle.stock_tables.specs.StockFile.{reading_of};
 ghost use Rattle.stock_tables.specs.declared.StockFault.TheVariants.{Memory as OutOfMemory};
 
-use std::alloc::{AllocError, AllocFailed};
+use crate::document::read_document;
+use crate::keys::read_keys;
+use std::alloc::{AllocError, AllocFailed, Global};
+pub use stock::Stock;
 use thiserror::Error;
 
 /// Why a stock file is refused.
@@ -43,4 +49,13 @@ impl<T: Drop> From<AllocFailed<T>> for StockFault {
     fn from(_e: AllocFailed<T>) -> StockFault {
         StockFault::Memory
     }
+}
+
+/// Reads a stock file: the train that it describes, or its first fault.
+pub fn read_stock(alloc: Global, bytes: &[u8]) -> Result<Stock, StockFault>
+    ensures { Gives (Err StockFault.Memory) (reading_of bytes.now) result }
+{
+    let document = read_document(alloc, bytes)?;
+    let keys = read_keys(alloc, &document)?;
+    Stock::new(alloc, keys)
 }
