@@ -94,13 +94,13 @@ IsCurveTo-ordered top rows e ranges =
     }
 
 -- a row that lies behind a speed says nothing there
-find-behind : (a b : Row) (rows : List Row) (k : ℕ) → b.kmh < k → value_at (a ∷ b ∷ rows) k ≡ value_at (b ∷ rows) k
+pub find-behind : (a b : Row) (rows : List Row) (k : ℕ) → b.kmh < k → value_at (a ∷ b ∷ rows) k ≡ value_at (b ∷ rows) k
 find-behind a b rows k h =
     let far : nat_le k b.kmh ≡ false = grind (arith, nat_tests, h) in
     rw (far, and-false (nat_le a.kmh k)) refl
 
 -- between the first two rows
-find-here : (a b : Row) (rows : List Row) (k : ℕ) → a.kmh ≤ k → k ≤ b.kmh → value_at (a ∷ b ∷ rows) k ≡ value_on (a, b) k
+pub find-here : (a b : Row) (rows : List Row) (k : ℕ) → a.kmh ≤ k → k ≤ b.kmh → value_at (a ∷ b ∷ rows) k ≡ value_on (a, b) k
 find-here a b rows k h g =
     let past : nat_le a.kmh k ≡ true = grind (arith, nat_tests, h) in
     let near : nat_le k b.kmh ≡ true = grind (arith, nat_tests, g) in

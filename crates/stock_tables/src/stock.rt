@@ -1,7 +1,7 @@
 //! The train that a stock file describes.
 
 ghost use Rattle.std.specs.Prelude.{◌≡◌, ◌≤◌, Err, All, IfOk};
-ghost use Rattle.table_laws.specs.Laws.{IsLawful, IsTable};
+ghost use Rattle.table_laws.specs.Laws.{IsLawful, IsTable, broken_at};
 ghost use Rattle.table_laws.specs.declared.Law.TheVariants.{Climb, Drop as Drops};
 ghost use Rattle.unit_rules.specs.Memory.{Gives};
 ghost use Rattle.stock_tables.specs.Curve.{IsCurveTo};
@@ -39,6 +39,15 @@ impl Model for Stock {
     ghost invariant = { λ s. IsStock (record { mass = s.mass; moved_mass = s.moved_mass; length = s.length; top = s.top; push = s.push; brake = s.brake }) };
 }
 
+// The first speed from which values break their law, in km/h.
+fn broken_at(fault: LawFault) -> u32
+    ensures { result ≡ broken_at fault }
+{
+    match fault {
+        LawFault::Broken { k } => k,
+    }
+}
+
 // The table of the key with that number, or the first speed from which its values break the law.
 fn table_of(number: u32, law: Law, rows: Vec<i64>) -> Result<Bands, StockFault>
     requires { IsTable rows.items }
@@ -47,7 +56,10 @@ fn table_of(number: u32, law: Law, rows: Vec<i64>) -> Result<Bands, StockFault>
 {
     match Bands::new(rows, law) {
         Ok(bands) => Ok(bands),
-        Err(LawFault::Broken { k }) => Err(StockFault::Law { table: number, k }),
+        Err(fault) => Err(StockFault::Law {
+            table: number,
+            k: broken_at(fault),
+        }),
     }
 }
 
