@@ -7,7 +7,8 @@ use Rattle.std.proofs.lemmas.Bool.{and_parts, cases_Bool, cases_eq}
 use Rattle.std.proofs.lemmas.Bool.Decides.{nat_tests}
 use Rattle.std.proofs.lemmas.List.{drop_more, get_or-map, length-map}
 use Rattle.stock_tables.specs.declared.curve.Row.{Row}
-use Rattle.stock_tables.specs.Curve.{IsCurve, IsCurveTo, IsPassed, IsRow, are_in_order, is_rising, speeds, value_at, value_on}
+use Rattle.stock_tables.specs.Walk.{IsPassed}
+use Rattle.stock_tables.specs.Curve.{IsCurve, IsCurveTo, IsRow, are_in_order, is_rising, speeds, value_at, value_on}
 
 nat_lt-true : (x y : ℕ) → nat_lt x y ≡ true → x < y
 nat_lt-true x y e = grind (arith, nat_tests, e)

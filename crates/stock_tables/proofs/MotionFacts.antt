@@ -11,12 +11,12 @@ use Rattle.table_laws.specs.declared.Law.{Law}
 use Rattle.stock_tables.specs.declared.StockFault.{StockFault}
 use Rattle.stock_tables.specs.declared.curve.Row.{Row}
 use Rattle.stock_tables.specs.declared.motion.Resistance.{Resistance}
-use Rattle.stock_tables.specs.Curve.{IsCurveTo, value_at}
+use Rattle.stock_tables.specs.Curve.{IsCurveTo, value_at, values_to}
 use Rattle.stock_tables.specs.Motion.{IsResistance, brake_loss, brake_rows, net_push, push_rows, resistance_at}
 use Rattle.stock_tables.specs.Stock.{IsStrong, IsTableTo}
 use Rattle.stock_tables.specs.StockFile.{table_of}
 use Rattle.stock_tables.proofs.LawFacts.{table_of-ok}
-use Rattle.stock_tables.proofs.ValueFacts.{IsValue, IsValue-at, top-slow}
+use Rattle.stock_tables.proofs.ValueFacts.{IsValue, IsValue-at, map-values, top-slow}
 
 resistance_at-most : (r : Resistance) (kmh : ℕ) → IsResistance r → kmh ≤ 500 → resistance_at r kmh ≤ 256000000000
 resistance_at-most r kmh i h =
@@ -46,7 +46,7 @@ module _ (f : ℕ → ℤ) (top : ℕ) where
   at_speed : (k : ℕ) → k ≤ top → row (map f (range_with_len 0 (top + 1))) k ≡ f k
   at_speed k h = get_or-map-range_with_len f 0 (top + 1) k k (pos 0) (omega arith) (omega arith)
 
-  pub top_of-map : top_of (map f (range_with_len 0 (top + 1))) ≡ top
+  top_of-map : top_of (map f (range_with_len 0 (top + 1))) ≡ top
   top_of-map = omega (arith, long)
 
   IsTable-map : 1 ≤ top → top ≤ 500 → ((k : ℕ) → k ≤ top → f k ≤ℤ pos (10 ^ 15)) → ((k : ℕ) → k ≤ top → neg_ℤ (pos (10 ^ 15)) ≤ℤ f k) → IsTable (map f (range_with_len 0 (top + 1)))
@@ -72,17 +72,33 @@ IsTable-brake top rates some c strong =
     IsTable-map (λ k. brake_loss (value_at rates k)) top some few (λ k h. brake_loss-most (value_at rates k) (value k h))
     (λ k h. let l = brake_loss-least (value_at rates k) (value k h) in omega (arith, ints))
 
--- a table that was read is lawful up to the top speed
-pub IsTableTo-read : (number top : ℕ) (law : Law) (f : ℕ → ℤ) (result : Result Table StockFault) → result ≡ table_of number law (map f (range_with_len 0 (top + 1))) → IfOk result IsLawful
+-- what is made of the computed values is made of the curve
+pub push_rows-made : (top : ℕ) (effort : List Row) (r : Resistance) (efforts made : List ℤ) → efforts ≡ values_to top effort
+    → made ≡ map (λ k. net_push (row efforts k) (resistance_at r k)) (range_with_len 0 (length efforts)) → made ≡ push_rows top effort r
+push_rows-made top effort r efforts made e m = m ∙ map-values (λ k z. net_push z (resistance_at r k)) top effort efforts e
+
+pub brake_rows-made : (top : ℕ) (rates : List Row) (values made : List ℤ) → values ≡ values_to top rates
+    → made ≡ map (λ k. brake_loss (row values k)) (range_with_len 0 (length values)) → made ≡ brake_rows top rates
+brake_rows-made top rates values made e m = m ∙ map-values (λ k z. brake_loss z) top rates values e
+
+-- a table of such rows that was read is lawful up to the top speed
+IsTableTo-read : (number top : ℕ) (law : Law) (f : ℕ → ℤ) (result : Result Table StockFault) → result ≡ table_of number law (map f (range_with_len 0 (top + 1))) → IfOk result IsLawful
     → IfOk result (IsTableTo top law)
 IsTableTo-read number top law f (Err fault) e kept = tt
 IsTableTo-read number top law f (Ok table) e kept =
     let same = table_of-ok number law (map f (range_with_len 0 (top + 1))) (Ok table) table e refl in
     record { ends = rw same (top_of-map f top); under = rw same refl; kept = kept }
 
-pub IsStrong-read : (number top : ℕ) (law : Law) (rates : List Row) (result : Result Table StockFault) → result ≡ table_of number law (brake_rows top rates) → IsCurveTo top rates
+pub IsTableTo-push : (top : ℕ) (law : Law) (effort : List Row) (r : Resistance) (result : Result Table StockFault) → result ≡ table_of 5 law (push_rows top effort r) → IfOk result IsLawful
+    → IfOk result (IsTableTo top law)
+IsTableTo-push top law effort r = IsTableTo-read 5 top law (λ k. net_push (value_at effort k) (resistance_at r k))
+
+pub IsTableTo-brake : (top : ℕ) (law : Law) (rates : List Row) (result : Result Table StockFault) → result ≡ table_of 7 law (brake_rows top rates) → IfOk result IsLawful → IfOk result (IsTableTo top law)
+IsTableTo-brake top law rates = IsTableTo-read 7 top law (λ k. brake_loss (value_at rates k))
+
+pub IsStrong-brake : (top : ℕ) (law : Law) (rates : List Row) (result : Result Table StockFault) → result ≡ table_of 7 law (brake_rows top rates) → IsCurveTo top rates
     → All (λ r. 50 ≤ r.value) rates → IfOk result (IsStrong top)
-IsStrong-read number top law rates (Err fault) e c strong = tt
-IsStrong-read number top law rates (Ok table) e c strong = λ k h.
-    let same = table_of-ok number law (brake_rows top rates) (Ok table) table e refl in
+IsStrong-brake top law rates (Err fault) e c strong = tt
+IsStrong-brake top law rates (Ok table) e c strong = λ k h.
+    let same = table_of-ok 7 law (brake_rows top rates) (Ok table) table e refl in
     rw (same, at_speed (λ j. brake_loss (value_at rates j)) top k h) (brake_loss-least (value_at rates k) (IsValue-at 50 top rates k c strong h))

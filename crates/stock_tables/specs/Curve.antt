@@ -60,9 +60,3 @@ pub record IsCurve (rows : List Row) : Type 0 where
 pub record IsCurveTo (top : ℕ) (rows : List Row) : Type 0 where
   pub curve : IsCurve rows
   pub ends : last_speed rows ≡ top
-
--- the place of a row from which on the values at that speed and above it are those of the whole curve
-pub record IsPassed (rows : List Row) (place kmh : ℕ) : Type 0 where
-  pub on_curve : place + 1 < length rows
-  pub passed : slice_index (speeds rows) place ≤ kmh
-  pub same : (k : ℕ) → kmh ≤ k → value_at (drop place rows) k ≡ value_at rows k

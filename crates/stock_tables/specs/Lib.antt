@@ -5,3 +5,4 @@ pub mod Motion
 pub mod Steps
 pub mod Stock
 pub mod StockFile
+pub mod Walk

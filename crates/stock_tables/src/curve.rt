@@ -2,19 +2,21 @@
 
 ghost use Rattle.std.specs.Prelude.{◌≡◌, ◌+◌, ◌≤◌, ◌<◌, pos, ◌*ℤ◌, unsigned_abs, Some, None, if◌then◌else◌, All, IfOk, IfSome, slice_index};
 ghost use Rattle.unit_rules.specs.Quotients.{floor_div};
-ghost use Rattle.stock_tables.specs.Curve.{IsCurve, IsCurveTo, IsPassed, IsRow, are_in_order, is_rising, last_speed, speeds, value_on, values_to};
+ghost use Rattle.stock_tables.specs.Walk.{IsPassed};
+ghost use Rattle.stock_tables.specs.Curve.{IsCurve, IsCurveTo, IsRow, are_in_order, is_rising, last_speed, speeds, value_on, values_to};
 
 use std::alloc::{AllocError, Global};
 use std::marker::Model;
 
-/// The value of a table at a whole speed in km/h.
-#[derive(Clone, Copy, Debug, PartialEq, Eq)]
+/// A row of a table by speed: a speed in km/h, and the value there.
+#[derive(Clone, Copy)]
 pub(crate) struct Row {
     pub kmh: u32,
     pub value: u32,
 }
 
-/// A table of values by speed, in order.
+/// A table of values by speed, at rising speeds from 0 km/h on. Between two rows the values lie on
+/// the way from one to the next.
 #[derive(Drop)]
 pub(crate) struct Curve {
     rows: Vec<Row>,
@@ -76,7 +78,7 @@ fn value_on(here: Row, there: Row, kmh: u32) -> i64
     i64::from(here.value) + part_of(rise, kmh - here.kmh, there.kmh - here.kmh)
 }
 
-// The place of the row from which the way to the next row leads past a speed, at `from` or behind it.
+// The place of the row from which the way to the next row leads to a speed, at `from` or after it.
 fn place_of(rows: &[Row], from: usize, kmh: u32) -> usize
     requires from { IsPassed rows.now from kmh }
     requires on_curve { kmh ≤ last_speed rows.now }

@@ -14,7 +14,7 @@ ghost use Rattle.stock_tables.specs.declared.document.KeyFault.TheVariants.{Memo
 use crate::StockFault;
 use crate::curve::{Curve, Row};
 use crate::motion::Resistance;
-use std::alloc::{AllocError, AllocFailed, Global};
+use std::alloc::{AllocError, Global};
 use toml::{Table, Value};
 use unit_rules::within;
 
@@ -30,14 +30,6 @@ impl From<AllocError> for KeyFault {
     ghost from_gives = { λ _ e. e ≡ OutOfMemory };
 
     fn from(_e: AllocError) -> KeyFault {
-        KeyFault::Memory
-    }
-}
-
-impl<T: Drop> From<AllocFailed<T>> for KeyFault {
-    ghost from_gives = { λ _ e. e ≡ OutOfMemory };
-
-    fn from(_e: AllocFailed<T>) -> KeyFault {
         KeyFault::Memory
     }
 }

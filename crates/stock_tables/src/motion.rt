@@ -1,12 +1,16 @@
-//! What the figures of a train mean for its squared speed.
+//! What the figures of a train mean for the square of its speed, in (0.01 km/h)².
+//!
+//! Uniform acceleration over a distance changes the squared speed by twice their product. Over a
+//! metre each m/s² changes it by 2·360² = 259200, since 1 m/s is 360 times 0.01 km/h.
 
 ghost use Rattle.std.specs.Prelude.{◌≡◌, ℕ, ◌≤◌, ◌<◌, ◌-◌, ◌+◌, pos, ◌≤ℤ◌, length, map};
 ghost use Rattle.std.specs.List.{range_with_len};
 ghost use Rattle.run_rules.specs.Grids.{row, top_of};
 ghost use Rattle.stock_tables.specs.Motion.{IsResistance, brake_loss, moved_mass, net_push, resistance_at};
 
-/// The running resistance of a train, in the form of Davis.
-#[derive(Clone, Copy, Debug, PartialEq, Eq)]
+/// The running resistance of a train, in the form of Davis: a constant part, a part that grows with
+/// the speed, and a part that grows with its square.
+#[derive(Clone, Copy)]
 pub(crate) struct Resistance {
     /// What it is at any speed, in N.
     pub constant: u32,
@@ -29,7 +33,7 @@ fn resistance_at(resistance: Resistance, kmh: u32) -> u64
     1000 * u64::from(resistance.constant) + linear + quadratic
 }
 
-/// The mass that is moved, in kg, where rotating parts count as so many per mille more of it.
+/// The mass that has to be moved, in kg, where rotating parts add so many per mille to the mass.
 pub(crate) fn moved_mass(mass: u32, rotating: u32) -> u32
     requires heavy { 1000 ≤ mass }
     requires light { mass ≤ 20000000 }
@@ -41,7 +45,7 @@ pub(crate) fn moved_mass(mass: u32, rotating: u32) -> u32
     (u64::from(mass) * (1000 + u64::from(rotating))).div_ceil(1000) as u32
 }
 
-// The push of an effort in N against a resistance in mN.
+// The push of an effort in N against a resistance in mN, where 259200/1000 is 1296/5.
 fn net_push(effort: i64, resistance: u64) -> i64
     requires least { pos 0 ≤ℤ effort }
     requires most { effort ≤ℤ pos 3000000 }
@@ -52,7 +56,8 @@ fn net_push(effort: i64, resistance: u64) -> i64
     259_200 * effort - against as i64
 }
 
-// What braking at a rate in mm/s² takes from the squared speed over a metre.
+// What braking at a rate in mm/s² takes from the squared speed over a metre, where 259200/1000 is
+// 2592/10.
 fn brake_loss(rate: i64) -> i64
     requires least { pos 0 ≤ℤ rate }
     requires most { rate ≤ℤ pos 3000000 }
@@ -61,7 +66,7 @@ fn brake_loss(rate: i64) -> i64
     (2592 * rate).div_euclid(10)
 }
 
-/// The push at each whole km/h, from the effort there in N.
+/// The push at 0, 1, .. km/h, from the efforts there in N.
 pub(crate) fn push_rows(efforts: Vec<i64>, resistance: Resistance) -> Vec<i64>
     requires resistance { IsResistance resistance }
     requires few { length efforts.items ≤ 501 }
@@ -76,7 +81,7 @@ pub(crate) fn push_rows(efforts: Vec<i64>, resistance: Resistance) -> Vec<i64>
     rows
 }
 
-/// What braking takes at each whole km/h, from its rate there in mm/s².
+/// What braking takes at 0, 1, .. km/h, from its rates there in mm/s².
 pub(crate) fn brake_rows(rates: Vec<i64>) -> Vec<i64>
     requires least { (k : ℕ) → k < length rates.items → pos 0 ≤ℤ row rates.items k }
     requires most { (k : ℕ) → k < length rates.items → row rates.items k ≤ℤ pos 3000000 }

@@ -1,5 +1,5 @@
 use Rattle.std.proofs.Common.{length, ◌-◌}
-use Rattle.stock_tables.specs.Curve.{IsPassed}
+use Rattle.stock_tables.specs.Walk.{IsPassed}
 use Rattle.stock_tables.proofs.curve.place_of.Given as goal
 
 abbrev pub invariant-loop-place : goal.invariant-loop-place

@@ -1,6 +1,7 @@
 use Rattle.std.proofs.Common.{◌≡◌, map}
 use Rattle.std.specs.List.{range_with_len}
-use Rattle.stock_tables.specs.Curve.{IsPassed, value_at}
+use Rattle.stock_tables.specs.Curve.{value_at}
+use Rattle.stock_tables.specs.Walk.{IsPassed}
 use Rattle.stock_tables.proofs.curve.values_to.Given as goal
 
 abbrev pub invariant-loop-kmh : goal.invariant-loop-kmh

@@ -1,12 +1,10 @@
-use Rattle.std.proofs.Common.{◌≤◌, ◌≡◌, ℕ, ℤ, List, arith, ap, ◌∙◌, inr}
+use Rattle.std.proofs.Common.{◌≤◌, ◌≡◌, ℤ, List, arith, ap, ◌∙◌, inr}
 use Rattle.std.proofs.lemmas.Int.{ints}
-use Rattle.stock_tables.specs.Motion.{brake_loss}
-use Rattle.stock_tables.specs.Curve.{value_at}
-use Rattle.stock_tables.specs.StockFile.{table_of}
-use Rattle.stock_tables.proofs.MotionFacts.{IsStrong-read, IsTable-brake, IsTableTo-read}
-use Rattle.stock_tables.proofs.ValueFacts.{IsValue-row, map-values}
-use Rattle.stock_tables.proofs.stock.brake_of.Goals as goal
 use Rattle.table_laws.specs.declared.Law.TheVariants.{Climb}
+use Rattle.stock_tables.specs.StockFile.{table_of}
+use Rattle.stock_tables.proofs.MotionFacts.{IsStrong-brake, IsTable-brake, IsTableTo-brake, brake_rows-made}
+use Rattle.stock_tables.proofs.ValueFacts.{IsValue-row}
+use Rattle.stock_tables.proofs.stock.brake_of.Goals as goal
 
 pub brake_rows-requires-clause-least : goal.brake_rows-requires-clause-least
 brake_rows-requires-clause-least c = λ k h.
@@ -19,22 +17,22 @@ brake_rows-requires-clause-most c = λ k h.
 
 pub table_of-requires : goal.table_of-requires
 table_of-requires c =
-    let same = map-values (λ k z. brake_loss z) c.args.top c.args.rates.now c.in_ok-rates.rates.items c.in_ok-rates.ensures.value in
-    rw (c.brake_rows.ensures, same) (IsTable-brake c.args.top c.args.rates.now c.requires.some c.requires.rates c.requires.strong)
+    let made = brake_rows-made c.args.top c.args.rates.now _ _ c.in_ok-rates.ensures.value c.brake_rows.ensures in
+    rw made (IsTable-brake c.args.top c.args.rates.now c.requires.some c.requires.rates c.requires.strong)
 
 pub returns-clause-value : goal.returns-clause-value
 returns-clause-value c =
-    let same = map-values (λ k z. brake_loss z) c.args.top c.args.rates.now c.in_ok-rates.rates.items c.in_ok-rates.ensures.value in
-    inr (c.table_of.ensures.value ∙ ap (λ (q : List ℤ). table_of 7 Climb q) (c.brake_rows.ensures ∙ same))
+    let made = brake_rows-made c.args.top c.args.rates.now _ _ c.in_ok-rates.ensures.value c.brake_rows.ensures in
+    inr (c.table_of.ensures.value ∙ ap (λ (q : List ℤ). table_of 7 Climb q) made)
 
 pub returns-clause-kept : goal.returns-clause-kept
 returns-clause-kept c =
-    let same = map-values (λ k z. brake_loss z) c.args.top c.args.rates.now c.in_ok-rates.rates.items c.in_ok-rates.ensures.value in
-    IsTableTo-read 7 c.args.top Climb (λ k. brake_loss (value_at c.args.rates.now k)) c.table_of.result
-    (c.table_of.ensures.value ∙ ap (λ (q : List ℤ). table_of 7 Climb q) (c.brake_rows.ensures ∙ same)) c.table_of.ensures.kept
+    let made = brake_rows-made c.args.top c.args.rates.now _ _ c.in_ok-rates.ensures.value c.brake_rows.ensures in
+    let read = c.table_of.ensures.value ∙ ap (λ (q : List ℤ). table_of 7 Climb q) made in
+    IsTableTo-brake c.args.top Climb c.args.rates.now c.table_of.result read c.table_of.ensures.kept
 
 pub returns-clause-strong : goal.returns-clause-strong
 returns-clause-strong c =
-    let same = map-values (λ k z. brake_loss z) c.args.top c.args.rates.now c.in_ok-rates.rates.items c.in_ok-rates.ensures.value in
-    IsStrong-read 7 c.args.top Climb c.args.rates.now c.table_of.result (c.table_of.ensures.value ∙ ap (λ (q : List ℤ). table_of 7 Climb q) (c.brake_rows.ensures ∙ same)) c.requires.rates
-    c.requires.strong
+    let made = brake_rows-made c.args.top c.args.rates.now _ _ c.in_ok-rates.ensures.value c.brake_rows.ensures in
+    let read = c.table_of.ensures.value ∙ ap (λ (q : List ℤ). table_of 7 Climb q) made in
+    IsStrong-brake c.args.top Climb c.args.rates.now c.table_of.result read c.requires.rates c.requires.strong

@@ -1,11 +1,9 @@
-use Rattle.std.proofs.Common.{◌≤◌, ◌≡◌, ℕ, ℤ, List, arith, sym, ap, ◌∙◌, inr}
-use Rattle.stock_tables.specs.Motion.{net_push, push_rows, resistance_at}
-use Rattle.stock_tables.specs.Curve.{value_at}
-use Rattle.stock_tables.specs.StockFile.{table_of}
-use Rattle.stock_tables.proofs.MotionFacts.{IsTable-push, IsTableTo-read}
-use Rattle.stock_tables.proofs.ValueFacts.{IsValue-row, length-values, map-values, top-slow}
-use Rattle.stock_tables.proofs.stock.push_of.Goals as goal
+use Rattle.std.proofs.Common.{◌≤◌, ◌≡◌, ℤ, List, arith, ap, ◌∙◌, inr}
 use Rattle.table_laws.specs.declared.Law.TheVariants.{Drop}
+use Rattle.stock_tables.specs.StockFile.{table_of}
+use Rattle.stock_tables.proofs.MotionFacts.{IsTable-push, IsTableTo-push, push_rows-made}
+use Rattle.stock_tables.proofs.ValueFacts.{IsValue-row, length-values, top-slow}
+use Rattle.stock_tables.proofs.stock.push_of.Goals as goal
 
 pub push_rows-requires-clause-few : goal.push_rows-requires-clause-few
 push_rows-requires-clause-few c =
@@ -23,16 +21,16 @@ push_rows-requires-clause-most c = λ k h.
 
 pub table_of-requires : goal.table_of-requires
 table_of-requires c =
-    let same = map-values (λ k z. net_push z (resistance_at c.args.resistance k)) c.args.top c.args.effort.now c.in_ok-efforts.efforts.items c.in_ok-efforts.ensures.value in
-    rw (c.push_rows.ensures, same) (IsTable-push c.args.top c.args.effort.now c.args.resistance c.requires.some c.requires.effort c.requires.resistance)
+    let made = push_rows-made c.args.top c.args.effort.now c.args.resistance _ _ c.in_ok-efforts.ensures.value c.push_rows.ensures in
+    rw made (IsTable-push c.args.top c.args.effort.now c.args.resistance c.requires.some c.requires.effort c.requires.resistance)
 
 pub returns-clause-value : goal.returns-clause-value
 returns-clause-value c =
-    let same = map-values (λ k z. net_push z (resistance_at c.args.resistance k)) c.args.top c.args.effort.now c.in_ok-efforts.efforts.items c.in_ok-efforts.ensures.value in
-    inr (c.table_of.ensures.value ∙ ap (λ (q : List ℤ). table_of 5 (Drop c.args.moved_mass) q) (c.push_rows.ensures ∙ same))
+    let made = push_rows-made c.args.top c.args.effort.now c.args.resistance _ _ c.in_ok-efforts.ensures.value c.push_rows.ensures in
+    inr (c.table_of.ensures.value ∙ ap (λ (q : List ℤ). table_of 5 (Drop c.args.moved_mass) q) made)
 
 pub returns-clause-kept : goal.returns-clause-kept
 returns-clause-kept c =
-    let same = map-values (λ k z. net_push z (resistance_at c.args.resistance k)) c.args.top c.args.effort.now c.in_ok-efforts.efforts.items c.in_ok-efforts.ensures.value in
-    IsTableTo-read 5 c.args.top (Drop c.args.moved_mass) (λ k. net_push (value_at c.args.effort.now k) (resistance_at c.args.resistance k)) c.table_of.result
-    (c.table_of.ensures.value ∙ ap (λ (q : List ℤ). table_of 5 (Drop c.args.moved_mass) q) (c.push_rows.ensures ∙ same)) c.table_of.ensures.kept
+    let made = push_rows-made c.args.top c.args.effort.now c.args.resistance _ _ c.in_ok-efforts.ensures.value c.push_rows.ensures in
+    let read = c.table_of.ensures.value ∙ ap (λ (q : List ℤ). table_of 5 (Drop c.args.moved_mass) q) made in
+    IsTableTo-push c.args.top (Drop c.args.moved_mass) c.args.effort.now c.args.resistance c.table_of.result read c.table_of.ensures.kept
