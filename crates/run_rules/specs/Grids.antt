@@ -12,7 +12,7 @@ row rows k = get_or rows k (pos 0)
 abbrev pub top_of : List ℤ → ℕ
 top_of rows = length rows - 1
 
--- how many squared speeds there are from k km/h up to the next
+-- how many squared speeds the band from k km/h up to the next has
 unfoldable pub band_width : ℕ → ℕ
 band_width k = 10000 * (2 * k + 1)
 
@@ -20,7 +20,7 @@ band_width k = 10000 * (2 * k + 1)
 unfoldable pub whole_kmh : ℕ → ℕ
 whole_kmh u = root_floor (u / 10000)
 
--- the value on the way from one to the other, that many parts of all on, rounded down
+-- the value on the way from low to high, `part` of `all` equal steps on, rounded down
 abbrev pub value_between : ℤ → ℤ → ℕ → ℕ → ℤ
 value_between low high part all = low +ℤ floor_div ((high -ℤ low) *ℤ pos part) all
 

@@ -9,7 +9,7 @@ ghost use Rattle.table_laws.specs.Laws.{IsTable};
 use unit_rules::div_floor;
 
 /// The greatest rise from one whole km/h to the next whose parts are computed in 64 bits: times
-/// the width of any band it fits an `i64`. Only the tables of absurd trains rise by more.
+/// the width of any band it fits an `i64`.
 const SMALL_RISE: u64 = 900_000_000_000;
 
 // Where a squared speed lies: `part` of the `all` squared speeds from `kmh` to the next.

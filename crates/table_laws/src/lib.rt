@@ -1,5 +1,5 @@
-//! Tables of values by speed under a law, which bounds how fast the values may change. Under their
-//! laws a train that is faster now is no slower at the next point, whether it accelerates or brakes.
+//! Tables of values by speed, under a law that bounds how fast the values may change from one
+//! squared speed to the next.
 #![tactic(auto)]
 
 ghost use Rattle.std.specs.Prelude.{◌≡◌, ℕ, ◌+◌, ◌*◌, ◌^◌, ◌<◌, ◌≤◌, pos, neg_ℤ, ◌≤ℤ◌, ◌↔◌, IsTrue, IfOk, OnOk, IfErr};
@@ -131,4 +131,55 @@ fn room_of(k: u32, per: u32) -> u64
     ensures small { result < 10 ^ 17 }
 {
     u64::from(per) * u64::from(10_000 * (2 * k + 1))
+}
+
+#[cfg(test)]
+mod tests {
+    use super::*;
+    use std::test::Fail;
+
+    fn first_break(rows: Vec<i64>, law: Law) -> Option<u32>
+        requires { IsTable rows.items }
+    {
+        match Bands::new(rows, law) {
+            Ok(_bands) => None,
+            Err(LawFault::Broken { k }) => Some(k),
+        }
+    }
+
+    #[test]
+    fn laws_just_met_and_just_broken(rt: HostRuntime) -> Result<(), Fail> {
+        let effort = Law::Drop { per: 259200 };
+        assert_eq!(rt;
+            first_break(vec![in rt.alloc(); 2592000000, 0, 0]?, effort),
+            None
+        );
+        assert_eq!(rt;
+            first_break(vec![in rt.alloc(); 2592259200, 0, 0]?, effort),
+            Some(0)
+        );
+        assert_eq!(rt;
+            first_break(vec![in rt.alloc(); 12960, 22809]?, Law::Climb),
+            None
+        );
+        assert_eq!(rt;
+            first_break(vec![in rt.alloc(); 12960, 25920]?, Law::Climb),
+            Some(0)
+        );
+        Ok(())
+    }
+
+    #[test]
+    fn values_between_whole_speeds(rt: HostRuntime) -> Result<(), Fail> {
+        let effort = Law::Drop { per: 259200 };
+        let bands = Bands::new(vec![in rt.alloc(); 2592000000, 0]?, effort).expect(&rt, "lawful");
+        let top = bands.top();
+        assert!(rt; top == 1);
+        assert_eq!(rt; bands.law(), effort);
+        assert_eq!(rt; bands.row(0), 2592000000);
+        assert_eq!(rt; bands.at(0), 2592000000);
+        assert_eq!(rt; bands.at(5000), 1296000000);
+        assert_eq!(rt; bands.at(10000), 0);
+        Ok(())
+    }
 }

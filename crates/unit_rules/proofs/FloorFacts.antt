@@ -1,5 +1,5 @@
 -- How quotients rounded down compare.
-use Rattle.std.proofs.Common.{◌≡◌, ℕ, zero, suc, ◌+◌, ◌-◌, ◌*◌, ◌/◌, ◌%◌, ◌<◌, ◌≤◌, ℤ, pos, negsuc, ◌≤ℤ◌, ◌<ℤ◌, ◌+ℤ◌, ◌-ℤ◌, ◌*ℤ◌, arith, refl, ap, mod-lt, div-add-mod', div-le_self, neg_ℤ, unsigned_abs, SFits, ◌∙◌, ◌^◌, mul-le-mul}
+use Rattle.std.proofs.Common.{◌≡◌, ℕ, suc, ◌+◌, ◌-◌, ◌*◌, ◌%◌, ◌<◌, ◌≤◌, ℤ, pos, negsuc, ◌≤ℤ◌, ◌<ℤ◌, ◌+ℤ◌, ◌-ℤ◌, ◌*ℤ◌, arith, refl, ap, mod-lt, div-add-mod', div-le_self, neg_ℤ, unsigned_abs, SFits, ◌∙◌, ◌^◌, mul-le-mul}
 use Rattle.std.specs.Int.{int_div_euclid}
 use mir.Syntax.{w128}
 use Rattle.std.proofs.Math.Nat.{zero-div}

@@ -1,6 +1,6 @@
 use Rattle.std.proofs.Common.{arith, SFits, w64, ◌+◌}
 use Rattle.std.proofs.lemmas.Int.{ints, to_z-of_z}
-use Rattle.run_rules.specs.Grids.{row, top_of, band_width}
+use Rattle.run_rules.specs.Grids.{row, top_of}
 use Rattle.run_rules.proofs.SpeedFacts.{squared-mono, squared-500}
 use Rattle.run_rules.proofs.GridFacts.{kmh-at_most, kmh-below, value_at-placed, value_at-row}
 use Rattle.table_laws.proofs.PartFacts.{band_width-most}

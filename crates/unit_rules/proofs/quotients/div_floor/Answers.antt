@@ -1,4 +1,4 @@
-use Rattle.std.proofs.Common.{arith, SFits}
+use Rattle.std.proofs.Common.{SFits}
 use mir.Syntax.{w128}
 use Rattle.std.proofs.lemmas.Int.{to_z-of_z}
 use Rattle.unit_rules.proofs.FloorFacts.{int_div_euclid-floor}
