@@ -1,0 +1,38 @@
+use Rattle.std.proofs.Common.{◌≤◌, ◌≡◌, ℤ, List, arith, ap, ◌∙◌, inr}
+use Rattle.std.proofs.lemmas.Int.{ints}
+use Rattle.table_laws.specs.declared.Law.TheVariants.{Climb}
+use Rattle.stock_tables.specs.StockFile.{table_of}
+use Rattle.stock_tables.proofs.MotionFacts.{IsStrong-brake, IsTable-brake, IsTableTo-brake, brake_rows-made}
+use Rattle.stock_tables.proofs.ValueFacts.{IsValue-row}
+use Rattle.stock_tables.proofs.stock.brake_of.Goals as goal
+
+pub brake_rows-requires-clause-least : goal.brake_rows-requires-clause-least
+brake_rows-requires-clause-least c = λ k h.
+    let least = (IsValue-row 50 c.args.top c.args.rates.now c.in_ok-rates.rates.items c.in_ok-rates.ensures.value c.requires.rates c.requires.strong k h).least in
+    omega (arith, ints)
+
+pub brake_rows-requires-clause-most : goal.brake_rows-requires-clause-most
+brake_rows-requires-clause-most c = λ k h.
+    (IsValue-row 50 c.args.top c.args.rates.now c.in_ok-rates.rates.items c.in_ok-rates.ensures.value c.requires.rates c.requires.strong k h).most
+
+pub table_of-requires : goal.table_of-requires
+table_of-requires c =
+    let made = brake_rows-made c.args.top c.args.rates.now _ _ c.in_ok-rates.ensures.value c.brake_rows.ensures in
+    rw made (IsTable-brake c.args.top c.args.rates.now c.requires.some c.requires.rates c.requires.strong)
+
+pub returns-clause-value : goal.returns-clause-value
+returns-clause-value c =
+    let made = brake_rows-made c.args.top c.args.rates.now _ _ c.in_ok-rates.ensures.value c.brake_rows.ensures in
+    inr (c.table_of.ensures.value ∙ ap (λ (q : List ℤ). table_of 7 Climb q) made)
+
+pub returns-clause-kept : goal.returns-clause-kept
+returns-clause-kept c =
+    let made = brake_rows-made c.args.top c.args.rates.now _ _ c.in_ok-rates.ensures.value c.brake_rows.ensures in
+    let read = c.table_of.ensures.value ∙ ap (λ (q : List ℤ). table_of 7 Climb q) made in
+    IsTableTo-brake c.args.top Climb c.args.rates.now c.table_of.result read c.table_of.ensures.kept
+
+pub returns-clause-strong : goal.returns-clause-strong
+returns-clause-strong c =
+    let made = brake_rows-made c.args.top c.args.rates.now _ _ c.in_ok-rates.ensures.value c.brake_rows.ensures in
+    let read = c.table_of.ensures.value ∙ ap (λ (q : List ℤ). table_of 7 Climb q) made in
+    IsStrong-brake c.args.top Climb c.args.rates.now c.table_of.result read c.requires.rates c.requires.strong

@@ -1,0 +1,36 @@
+use Rattle.std.proofs.Common.{◌≤◌, ◌≡◌, ℤ, List, arith, ap, ◌∙◌, inr}
+use Rattle.table_laws.specs.declared.Law.TheVariants.{Drop}
+use Rattle.stock_tables.specs.StockFile.{table_of}
+use Rattle.stock_tables.proofs.MotionFacts.{IsTable-push, IsTableTo-push, push_rows-made}
+use Rattle.stock_tables.proofs.ValueFacts.{IsValue-row, length-values, top-slow}
+use Rattle.stock_tables.proofs.stock.push_of.Goals as goal
+
+pub push_rows-requires-clause-few : goal.push_rows-requires-clause-few
+push_rows-requires-clause-few c =
+    let long = length-values c.args.top c.args.effort.now _ c.in_ok-efforts.ensures.value in
+    let slow = top-slow c.args.top c.args.effort.now c.requires.effort in
+    omega arith
+
+pub push_rows-requires-clause-least : goal.push_rows-requires-clause-least
+push_rows-requires-clause-least c = λ k h.
+    (IsValue-row 0 c.args.top c.args.effort.now c.in_ok-efforts.efforts.items c.in_ok-efforts.ensures.value c.requires.effort (λ i d l. omega arith) k h).least
+
+pub push_rows-requires-clause-most : goal.push_rows-requires-clause-most
+push_rows-requires-clause-most c = λ k h.
+    (IsValue-row 0 c.args.top c.args.effort.now c.in_ok-efforts.efforts.items c.in_ok-efforts.ensures.value c.requires.effort (λ i d l. omega arith) k h).most
+
+pub table_of-requires : goal.table_of-requires
+table_of-requires c =
+    let made = push_rows-made c.args.top c.args.effort.now c.args.resistance _ _ c.in_ok-efforts.ensures.value c.push_rows.ensures in
+    rw made (IsTable-push c.args.top c.args.effort.now c.args.resistance c.requires.some c.requires.effort c.requires.resistance)
+
+pub returns-clause-value : goal.returns-clause-value
+returns-clause-value c =
+    let made = push_rows-made c.args.top c.args.effort.now c.args.resistance _ _ c.in_ok-efforts.ensures.value c.push_rows.ensures in
+    inr (c.table_of.ensures.value ∙ ap (λ (q : List ℤ). table_of 5 (Drop c.args.moved_mass) q) made)
+
+pub returns-clause-kept : goal.returns-clause-kept
+returns-clause-kept c =
+    let made = push_rows-made c.args.top c.args.effort.now c.args.resistance _ _ c.in_ok-efforts.ensures.value c.push_rows.ensures in
+    let read = c.table_of.ensures.value ∙ ap (λ (q : List ℤ). table_of 5 (Drop c.args.moved_mass) q) made in
+    IsTableTo-push c.args.top (Drop c.args.moved_mass) c.args.effort.now c.args.resistance c.table_of.result read c.table_of.ensures.kept

@@ -1,0 +1,39 @@
+-- What contracts see of a stock.
+use Rattle.std.specs.Prelude.{ℕ, ◌≤◌, ◌≡◌, pos, ◌≤ℤ◌}
+use Rattle.run_rules.specs.Grids.{row, top_of}
+use Rattle.table_laws.specs.Laws.{IsLawful, Table}
+use Rattle.table_laws.specs.declared.Law.{Law}
+use Rattle.table_laws.specs.declared.Law.TheVariants.{Drop, Climb}
+
+-- a stock: its mass and moved mass in kg, its length in metres, its top speed in km/h, and its tables of push and braking
+pub record StockTable : Type 0 where
+  pub mass : ℕ
+  pub moved_mass : ℕ
+  pub length : ℕ
+  pub top : ℕ
+  pub push : Table
+  pub brake : Table
+
+-- a lawful table up to a top speed
+pub record IsTableTo (top : ℕ) (law : Law) (table : Table) : Type 0 where
+  pub ends : top_of table.rows ≡ top
+  pub under : table.law ≡ law
+  pub kept : IsLawful table
+
+-- the braking takes 12960 or more at each speed
+abbrev pub IsStrong : ℕ → Table → Type 0
+IsStrong top brake = (k : ℕ) → k ≤ top → pos 12960 ≤ℤ row brake.rows k
+
+-- a stock in its ranges, with its tables up to its top speed: the push may drop by the moved mass, and the braking climb by 1
+pub record IsStock (s : StockTable) : Type 0 where
+  pub light : 1000 ≤ s.mass
+  pub heavy : s.mass ≤ 20000000
+  pub moved_light : 1000 ≤ s.moved_mass
+  pub moved_heavy : s.moved_mass ≤ 26000000
+  pub short : 1 ≤ s.length
+  pub long : s.length ≤ 5000
+  pub slow : 1 ≤ s.top
+  pub fast : s.top ≤ 500
+  pub pushes : IsTableTo s.top (Drop s.moved_mass) s.push
+  pub brakes : IsTableTo s.top Climb s.brake
+  pub strong : IsStrong s.top s.brake
