@@ -1,1 +1,2 @@
 pub mod JoinFacts
+pub mod SpeedFacts

@@ -1,8 +1,10 @@
 -- The texts that are printed, each a function of its values.
-use Rattle.std.specs.Prelude.{ℕ, ◌==◌, if◌then◌else◌, List, ◌++◌, codes, length, map, slice_index, ℤ}
+use Rattle.std.specs.Prelude.{ℕ, ◌==◌, ◌+◌, if◌then◌else◌, List, [], ◌∷◌, ◌++◌, codes, length, map, slice_index, ℤ, pos}
 use Rattle.std.specs.Fmt.{decimal, signed_decimal}
 use Rattle.std.specs.List.{join_with_byte}
 use Rattle.run_io.specs.Texts.{lines_below}
+use Rattle.run_rules.specs.Grids.{row}
+use Rattle.stock_tables.specs.Stock.{StockTable}
 
 -- a text behind a space, where it isn't the first
 abbrev pub spaced : ℕ → List ℕ → List ℕ
@@ -19,3 +21,15 @@ point_line point number = decimal point ++ codes " " ++ decimal number ++ codes 
 -- a line for each number of a list by point
 abbrev pub list_text : List ℕ → List ℕ
 list_text numbers = lines_below (λ i. point_line i (slice_index numbers i)) (length numbers)
+
+-- the moved mass, the mass, the length and the top speed of a train
+abbrev pub train_line : StockTable → List ℕ
+train_line stock = numbers_text (pos stock.moved_mass ∷ pos stock.mass ∷ pos stock.length ∷ pos stock.top ∷ [])
+
+-- a whole km/h, with the push and the braking there
+abbrev pub speed_line : StockTable → ℕ → List ℕ
+speed_line stock kmh = numbers_text (pos kmh ∷ row stock.push.rows kmh ∷ row stock.brake.rows kmh ∷ [])
+
+-- the tables of a train, up to its top speed
+abbrev pub bands_text : StockTable → List ℕ
+bands_text stock = train_line stock ++ lines_below (speed_line stock) (stock.top + 1)

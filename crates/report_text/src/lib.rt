@@ -7,9 +7,10 @@ ghost use Rattle.std.specs.Io.KnownBytes.{Appends};
 ghost use Rattle.run_io.specs.Causes.{HasCause};
 ghost use Rattle.run_io.specs.Pages.{Carries};
 ghost use Rattle.run_io.specs.Writes.{AppendsFront};
-ghost use Rattle.report_text.specs.Texts.{list_text, numbers_text, point_line, spaced};
+ghost use Rattle.report_text.specs.Texts.{bands_text, list_text, numbers_text, point_line, spaced, speed_line, train_line};
 
 use run_io::{Failed, PAGE, Page, Sink};
+use stock_tables::Stock;
 
 /// Writes the numbers in decimal, one space between, and a line end.
 pub fn write_numbers<K: Sink>(out: &mut K, numbers: &[i64]) -> Result<(), Failed>
@@ -46,6 +47,47 @@ fn put_spaced(page: &mut Page, place: usize, number: &i64)
         page.put(b" ");
     }
     page.put_signed(*number);
+}
+
+/// Writes the tables of a train: `MOVED_MASS MASS LENGTH TOP`, and then `K PUSH BRAKING` for each
+/// whole km/h up to the top speed.
+pub fn write_bands<K: Sink>(out: &mut K, stock: &Stock) -> Result<(), Failed>
+    ensures ok { OnOk result (Appends (K.written out.old) (K.written out.new) (bands_text stock.now)) }
+    ensures failed { OnErr result (AppendsFront (K.written out.old) (K.written out.new) (bands_text stock.now)) }
+    ensures cause { HasCause (K.faults out.old) (K.faults out.new) result }
+{
+    let mut page = Page::new();
+    put_train(&mut page, out, stock)?;
+    for kmh in 0..stock.top() + 1 {
+        put_speed(&mut page, out, stock, kmh)?;
+    }
+    page.flush(out)
+}
+
+// Puts the line of a train's numbers.
+fn put_train<K: Sink>(page: &mut Page, out: &mut K, stock: &Stock) -> Result<(), Failed>
+    ensures ok { OnOk result (Carries (K.written out.old) page.old (K.written out.new) page.new (train_line stock.now)) }
+    ensures failed { OnErr result (AppendsFront (K.written out.old) (K.written out.new) (page.old ++ train_line stock.now)) }
+    ensures cause { HasCause (K.faults out.old) (K.faults out.new) result }
+{
+    let numbers = [
+        stock.moved_mass() as i64,
+        stock.mass() as i64,
+        stock.length() as i64,
+        stock.top() as i64,
+    ];
+    put_numbers(page, out, &numbers)
+}
+
+// Puts the line of a whole km/h: the speed, the push and the braking.
+fn put_speed<K: Sink>(page: &mut Page, out: &mut K, stock: &Stock, kmh: u32) -> Result<(), Failed>
+    requires { kmh ≤ stock.now.top }
+    ensures ok { OnOk result (Carries (K.written out.old) page.old (K.written out.new) page.new (speed_line stock.now kmh)) }
+    ensures failed { OnErr result (AppendsFront (K.written out.old) (K.written out.new) (page.old ++ speed_line stock.now kmh)) }
+    ensures cause { HasCause (K.faults out.old) (K.faults out.new) result }
+{
+    let numbers = [kmh as i64, stock.push().row(kmh), stock.brake().row(kmh)];
+    put_numbers(page, out, &numbers)
 }
 
 /// Writes a line `POINT NUMBER` for each number of a list by point, from point 0.

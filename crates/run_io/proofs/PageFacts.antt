@@ -42,6 +42,14 @@ AppendsFront-behind w w' w'' h h' text more all c f e =
     AppendsFront-after w w' w'' c.sent h' more (h ++ all) c.gone f
     (ap (λ (q : List ℕ). h ++ q) e ∙ sym (append_assoc h text more) ∙ ap (λ (q : List ℕ). q ++ more) c.rest)
 
+-- the same where more text was to go behind what is held
+pub AppendsFront-then : (w w' w'' : Option (List ℕ)) (h h' text more rest all : List ℕ) → Carries w h w' h' text → AppendsFront w' w'' (h' ++ more)
+    → all ≡ text ++ (more ++ rest) → AppendsFront w w'' (h ++ all)
+AppendsFront-then w w' w'' h h' text more rest all c f e =
+    AppendsFront-after w w' w'' c.sent (h' ++ more) rest (h ++ all) c.gone f
+    (ap (λ (q : List ℕ). h ++ q) e ∙ sym (append_assoc h text (more ++ rest)) ∙ ap (λ (q : List ℕ). q ++ (more ++ rest)) c.rest ∙ append_assoc c.sent h' (more ++ rest)
+    ∙ ap (λ (q : List ℕ). c.sent ++ q) (sym (append_assoc h' more rest)) ∙ sym (append_assoc c.sent (h' ++ more) rest))
+
 -- where nothing was held at first and the rest has gone too, the whole text was written
 pub Appends-carried : (w w' w'' : Option (List ℕ)) (h' text : List ℕ) → Carries w [] w' h' text → Appends w' w'' h' → Appends w w'' text
 Appends-carried w w' w'' h' text c a = subst (λ (q : List ℕ). Appends w w'' q) (sym c.rest) (Appends-trans w w' w'' c.sent h' c.gone a)
