@@ -7,21 +7,13 @@ use Rattle.run_io.specs.Causes.{Rose}
 use Rattle.run_io.specs.Fetches.{Files}
 use Rattle.run_io.specs.Writes.{AppendsFront}
 use Rattle.run_io.proofs.Written.{Appends-trans, AppendsFront-none}
-use Rattle.unit_rules.specs.Memory.{Gives}
-use Rattle.line_tables.specs.LineFile.{reading_of}
-use Rattle.line_tables.specs.Table.{LineTable}
-use Rattle.line_tables.specs.declared.LineFault.{LineFault}
-use Rattle.line_tables.specs.declared.LineFault.TheVariants as fault
-use Rattle.run_cli.specs.Answers.{AnswersCaps, WithLine, Is}
 use Rattle.run_cli.specs.Ends.{CausedBy, EndsAs, EndsShort, EndsWhole}
-use Rattle.run_cli.specs.Files.{Fetched}
 use Rattle.run_cli.specs.Finishes.{FinishesAs}
 use Rattle.run_cli.specs.Statuses.{status_text}
 use Rattle.run_cli.specs.Stops.{StopsAs, StopsAt, StopsBefore, StopsBy}
-use Rattle.run_cli.specs.Texts.{caps_text}
-use Rattle.run_cli.specs.Words.{IsForm, form_of, named_files, word}
+use Rattle.run_cli.specs.Words.{IsForm, files_by, form_of, named_files, word}
 use Rattle.run_cli.specs.declared.words.Form.{Form}
-use Rattle.run_cli.specs.declared.words.Form.TheVariants.{Caps}
+use Rattle.run_cli.specs.declared.words.Form.TheVariants.{Caps, Bands}
 use Rattle.run_cli.specs.declared.status.Status.{Status}
 use Rattle.run_cli.specs.declared.status.Status.TheVariants.{Done, Memory, Usage, ReadFault, WriteFault, Refused, TooLong}
 
@@ -96,49 +88,31 @@ pub EndsAs-told : (told : Files) (answers : (List ℕ → Option (List ℕ)) →
 EndsAs-told None answers a b c before now stopped result s f = tt
 EndsAs-told (Some files) answers a b c before now stopped result s f = EndsAs-finish (answers files) a b c before now stopped result s f
 
--- where the sink failed in the text of `caps`, a front of an answer was written
-pub StopsAs-caps : (told : Files) (name bytes : List ℕ) (line : LineTable) (train top : ℕ) (old new : Option (List ℕ)) (stopped : Result (Unit {0}) Status)
-    → Fetched told name bytes → Gives (Err fault.Memory) (reading_of bytes) (Ok line) → AppendsFront old new (caps_text line train top) → stopped ≡ Err WriteFault
-    → IfSome told (λ files. StopsAs (AnswersCaps train top (files name)) old new stopped)
-StopsAs-caps None name bytes line train top old new stopped fetched (inl g) front e = tt
-StopsAs-caps None name bytes line train top old new stopped fetched (inr g) front e = tt
-StopsAs-caps (Some files) name bytes line train top old new stopped fetched (inl g) front e = cc g
-StopsAs-caps (Some files) name bytes line train top old new stopped fetched (inr g) front e =
-    let same = fetched.same in
-    let short = fetched.short in
-    let answer : AnswersCaps train top (files name) Done (caps_text line train top) =
-    rw same (inr (short, subst (λ (r : Result LineTable LineFault). WithLine r (λ l. Is Done (caps_text l train top)) Done (caps_text line train top)) g (record { status_is = refl; text_is = refl }))) in
-    rw e (inr (record { status = Done; text = caps_text line train top; answer = answer; written = front }))
-
 -- a word by its place
 pub word-string_bytes : {W : Type 0} (bytes : W → List ℕ) (words : List W) (place : ℕ) (w : W) → w ≡ get_or words place w → place < length words → bytes w ≡ word (map bytes words) place
 word-string_bytes bytes [] place w e h = absurd (omega arith)
 word-string_bytes bytes (x ∷ xs) zero w e h = ap bytes e
 word-string_bytes bytes (x ∷ xs) (suc place) w e h = word-string_bytes bytes xs place w e (omega arith)
 
--- a form has a word for its file
-pub IsForm-files : {count : ℕ} (form : Form) → IsForm count form → 1 < count
-IsForm-files (Caps train top) h = omega (arith, h.words)
-
 -- the causes that a form has, by the words that ask for it
-pub StopsBy-caps : (words : List (List ℕ)) (form : Form) (files : Files) (name : List ℕ) (shelf shelf' sink sink' : ℕ) (stopped : Result (Unit {0}) Status)
-    → form_of words ≡ Some form → name ≡ word words 1 → StopsBy ⊥ (name ∷ []) files shelf shelf' sink sink' stopped
+pub StopsBy-form : (words : List (List ℕ)) (form : Form) (names : List (List ℕ)) (files : Files) (shelf shelf' sink sink' : ℕ) (stopped : Result (Unit {0}) Status)
+    → form_of words ≡ Some form → names ≡ files_by (Some form) words → StopsBy ⊥ names files shelf shelf' sink sink' stopped
     → StopsBy (form_of words ≡ None) (named_files words) files shelf shelf' sink sink' stopped
-StopsBy-caps words (Caps train top) files name shelf shelf' sink sink' stopped e n s =
+StopsBy-form words form names files shelf shelf' sink sink' stopped e n s =
     record { later = s.later; cause = by stopped s.cause }
   where
-    names : name ∷ [] ≡ named_files words
-    names = rw (e, n) refl
+    named : names ≡ named_files words
+    named = rw (e, n) refl
 
-    at : (t : Status) → CausedBy ⊥ (name ∷ []) files shelf shelf' sink sink' t → CausedBy (form_of words ≡ None) (named_files words) files shelf shelf' sink sink' t
+    at : (t : Status) → CausedBy ⊥ names files shelf shelf' sink sink' t → CausedBy (form_of words ≡ None) (named_files words) files shelf shelf' sink sink' t
     at Memory h = tt
     at Done h = tt
     at Usage h = absurd h
-    at ReadFault h = subst (λ (q : List (List ℕ)). CausedBy ⊥ q files shelf shelf' sink sink' ReadFault) names h
+    at ReadFault h = subst (λ (q : List (List ℕ)). CausedBy ⊥ q files shelf shelf' sink sink' ReadFault) named h
     at WriteFault h = h
     at (Refused file place rule) h = tt
     at (TooLong file) h = tt
 
-    by : (r : Result (Unit {0}) Status) → IfErr r (CausedBy ⊥ (name ∷ []) files shelf shelf' sink sink') → IfErr r (CausedBy (form_of words ≡ None) (named_files words) files shelf shelf' sink sink')
+    by : (r : Result (Unit {0}) Status) → IfErr r (CausedBy ⊥ names files shelf shelf' sink sink') → IfErr r (CausedBy (form_of words ≡ None) (named_files words) files shelf shelf' sink sink')
     by (Ok u) h = tt
     by (Err t) h = at t h

@@ -1,2 +1,2 @@
-pub mod CapFacts
 pub mod EndFacts
+pub mod LoadFacts

@@ -1,16 +1,20 @@
 -- What a run answers where no device fails and memory is found: which status, with which text.
-use Rattle.std.specs.Prelude.{ℕ, ◌≡◌, ◌≤◌, ◌<◌, ◌⊎◌, List, [], length, Option, Some, None, Result, Ok, Err}
-use Rattle.line_tables.specs.LineFile.{reading_of}
+use Rattle.std.specs.Prelude.{ℕ, ◌≡◌, ◌≤◌, ◌<◌, ◌⊎◌, List, length, Option, Some, None, Result, Ok, Err}
+use Rattle.line_tables.specs.LineFile as line
 use Rattle.line_tables.specs.Table.{LineTable}
 use Rattle.line_tables.specs.declared.LineFault.{LineFault}
-use Rattle.run_cli.specs.Statuses.{line_status, status_text}
+use Rattle.stock_tables.specs.StockFile as stock
+use Rattle.stock_tables.specs.Stock.{StockTable}
+use Rattle.stock_tables.specs.declared.StockFault.{StockFault}
+use Rattle.report_text.specs.Texts.{bands_text}
+use Rattle.run_cli.specs.Files.{most_bytes}
+use Rattle.run_cli.specs.Statuses.{line_status, status_text, stock_status}
 use Rattle.run_cli.specs.Texts.{caps_text}
 use Rattle.run_cli.specs.Words.{form_of, word}
-use Rattle.run_cli.specs.Files.{most_bytes}
 use Rattle.run_cli.specs.declared.status.Status.{Status}
 use Rattle.run_cli.specs.declared.status.Status.TheVariants.{Done, Usage, ReadFault, TooLong}
 use Rattle.run_cli.specs.declared.words.Form.{Form}
-use Rattle.run_cli.specs.declared.words.Form.TheVariants.{Caps}
+use Rattle.run_cli.specs.declared.words.Form.TheVariants.{Caps, Bands}
 
 -- which statuses with which texts answer
 abbrev pub Answer : Type 1
@@ -30,18 +34,23 @@ abbrev pub WithFile : ℕ → Option (List ℕ) → (List ℕ → Answer) → St
 WithFile number None next s t = Refuses ReadFault s t
 WithFile number (Some bytes) next s t = ((most_bytes < length bytes) × Refuses (TooLong number) s t) ⊎ ((length bytes ≤ most_bytes) × next bytes s t)
 
--- a line file, by what it reads as: its fault, or its line answers
-abbrev pub WithLine : Result LineTable LineFault → (LineTable → Answer) → Status → List ℕ → Type 0
-WithLine (Ok line) next s t = next line s t
-WithLine (Err fault) next s t = Refuses (line_status fault) s t
+-- what was read: a fault, or a table that answers
+abbrev pub WithTable : {T E : Type 0} → (E → Status) → Result T E → (T → Answer) → Status → List ℕ → Type 0
+WithTable status (Ok table) next s t = next table s t
+WithTable status (Err fault) next s t = Refuses (status fault) s t
 
--- the caps of a line file, for a train of a length in metres and a top speed in km/h
-abbrev pub AnswersCaps : ℕ → ℕ → Option (List ℕ) → Status → List ℕ → Type 0
-AnswersCaps train top file s t = WithFile 1 file (λ bytes. WithLine (reading_of bytes) (λ line. Is Done (caps_text line train top))) s t
+-- a line file, whose line answers
+abbrev pub LineFile : Option (List ℕ) → (LineTable → Answer) → Status → List ℕ → Type 0
+LineFile file next s t = WithFile 1 file (λ bytes. WithTable line_status (line.reading_of bytes) next) s t
+
+-- a stock file, whose stock answers
+abbrev pub StockFile : Option (List ℕ) → (StockTable → Answer) → Status → List ℕ → Type 0
+StockFile file next s t = WithFile 2 file (λ bytes. WithTable stock_status (stock.reading_of bytes) next) s t
 
 abbrev pub AnswersBy : Option Form → List (List ℕ) → (List ℕ → Option (List ℕ)) → Status → List ℕ → Type 0
 AnswersBy None words files s t = Refuses Usage s t
-AnswersBy (Some (Caps train top)) words files s t = AnswersCaps train top (files (word words 1)) s t
+AnswersBy (Some (Caps train top)) words files s t = LineFile (files (word words 1)) (λ line. Is Done (caps_text line train top)) s t
+AnswersBy (Some Bands) words files s t = StockFile (files (word words 1)) (λ stock. Is Done (bands_text stock)) s t
 
 -- what answers these words over these files
 abbrev pub Answers : List (List ℕ) → (List ℕ → Option (List ℕ)) → Status → List ℕ → Type 0

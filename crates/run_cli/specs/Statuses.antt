@@ -1,8 +1,10 @@
 -- The text that each status has of its own, and the status of each fault of a file.
-use Rattle.std.specs.Prelude.{ℕ, List, [], ◌++◌, codes}
+use Rattle.std.specs.Prelude.{ℕ, ◌==◌, if◌then◌else◌, List, [], ◌++◌, codes}
 use Rattle.std.specs.Fmt.{decimal}
 use Rattle.line_tables.specs.declared.LineFault.{LineFault}
 use Rattle.line_tables.specs.declared.LineFault.TheVariants as line
+use Rattle.stock_tables.specs.declared.StockFault.{StockFault}
+use Rattle.stock_tables.specs.declared.StockFault.TheVariants as stock
 use Rattle.run_cli.specs.declared.status.Status.{Status}
 use Rattle.run_cli.specs.declared.status.Status.TheVariants.{Done, Memory, Usage, ReadFault, WriteFault, Refused, TooLong}
 
@@ -21,3 +23,14 @@ abbrev pub line_status : LineFault → Status
 line_status (line.Bad place rule) = Refused 1 place rule
 line_status line.Missing = Refused 1 0 0
 line_status line.Memory = Memory
+
+-- the rule of a law: 5 for effort, which is key 5, and 6 for brake
+abbrev pub law_rule : ℕ → ℕ
+law_rule table = if table == 5 then 5 else 6
+
+-- a stock file is file 2; its places are the keys, and for a law the speed from which it is broken
+abbrev pub stock_status : StockFault → Status
+stock_status stock.NotToml = Refused 2 0 0
+stock_status (stock.Key key rule) = Refused 2 key rule
+stock_status (stock.Law table k) = Refused 2 k (law_rule table)
+stock_status stock.Memory = Memory

@@ -1,14 +1,9 @@
 -- The texts that the forms write.
-use Rattle.std.specs.Prelude.{ℕ, ◌+◌, List, ◌++◌, codes}
-use Rattle.std.specs.Fmt.{decimal}
-use Rattle.run_io.specs.Texts.{lines_below}
+use Rattle.std.specs.Prelude.{ℕ, List, []}
 use Rattle.line_tables.specs.Table.{LineTable}
-use Rattle.run_rules.specs.Caps.{cap_at}
+use Rattle.report_text.specs.Texts.{list_text}
+use Rattle.run_rules.specs.Caps.{caps_of}
 
--- a point and its number
-abbrev pub point_line : ℕ → ℕ → List ℕ
-point_line point number = decimal point ++ codes " " ++ decimal number ++ codes "\n"
-
--- a line for each point of a railway line, its ends among them: its cap
+-- the caps of a line by its limits and a train's top speed alone, a line for each point
 abbrev pub caps_text : LineTable → ℕ → ℕ → List ℕ
-caps_text line train top = lines_below (λ i. point_line i (cap_at line.length train top line.limits i)) (line.length + 1)
+caps_text line train top = list_text (caps_of line.length train top line.limits [])

@@ -3,7 +3,7 @@ use Rattle.std.specs.Prelude.{ℕ, ◌≡◌, ◌≤◌, Bool, ◌==◌, ◌&&�
 use Rattle.std.specs.Str.{bytes_eq}
 use Rattle.unit_rules.specs.Numeral.{number_in}
 use Rattle.run_cli.specs.declared.words.Form.{Form}
-use Rattle.run_cli.specs.declared.words.Form.TheVariants.{Caps}
+use Rattle.run_cli.specs.declared.words.Form.TheVariants.{Caps, Bands}
 
 -- the word at a place, or nothing past the last
 abbrev pub word : List (List ℕ) → ℕ → List ℕ
@@ -18,15 +18,21 @@ caps_of (Some train) (Some top) = Some (Caps train top)
 caps_of (Some train) None = None
 caps_of None top = None
 
--- the form of the words, if they are one: `caps LINE LENGTH TOP`, of 1 to 5000 m and 1 to 500 km/h
+-- the words are a command of that name, with that many words
+abbrev pub asks : List (List ℕ) → List ℕ → ℕ → Bool
+asks words name count = length words == count && bytes_eq (word words 0) name
+
+-- the form of the words, if they are one: `caps LINE LENGTH TOP`, of 1 to 5000 m and 1 to 500 km/h; `stock STOCK`
 abbrev pub form_of : List (List ℕ) → Option Form
 form_of words =
-    if length words == 4 && bytes_eq (word words 0) (codes "caps") && is_name (word words 1) then caps_of (number_in 1 5000 (word words 2)) (number_in 1 500 (word words 3))
+    if asks words (codes "caps") 4 && is_name (word words 1) then caps_of (number_in 1 5000 (word words 2)) (number_in 1 500 (word words 3))
+    else if asks words (codes "stock") 2 && is_name (word words 1) then Some Bands
     else None
 
 abbrev pub files_by : Option Form → List (List ℕ) → List (List ℕ)
 files_by None words = []
 files_by (Some (Caps train top)) words = word words 1 ∷ []
+files_by (Some Bands) words = word words 1 ∷ []
 
 -- the files that the words name, in the order in which they are read
 abbrev pub named_files : List (List ℕ) → List (List ℕ)
@@ -35,8 +41,11 @@ named_files words = files_by (form_of words) words
 -- the numbers of a form are in range, and so many words give it
 pub record IsCaps (count train top : ℕ) : Type 0 where
   pub words : count ≡ 4
-  pub train_le : train ≤ 5000
-  pub top_le : top ≤ 500
+  pub train_least : 1 ≤ train
+  pub train_most : train ≤ 5000
+  pub top_least : 1 ≤ top
+  pub top_most : top ≤ 500
 
 abbrev pub IsForm : ℕ → Form → Type 0
 IsForm count (Caps train top) = IsCaps count train top
+IsForm count Bands = count ≡ 2

@@ -1,17 +1,46 @@
 //! The files that a form reads.
 
-ghost use Rattle.std.specs.Prelude.{IfOk, IfErr};
-ghost use Rattle.run_cli.specs.Files.{FetchStops, Fetched};
+ghost use Rattle.std.specs.Prelude.{◌≡◌, ◌≤◌, IfOk, IfErr, IfSome};
+ghost use Rattle.run_cli.specs.Answers.{LineFile, StockFile};
+ghost use Rattle.run_cli.specs.Files.{FetchStops, Fetched, IsLineOf, IsStockOf, LoadStops, Never};
 
 use crate::Status;
+use line_tables::{Line, read_line};
 use run_io::{Fetch, Shelf};
 use std::alloc::Global;
+use stock_tables::{Stock, read_stock};
 
 /// How many bytes a file may have.
 pub const MOST_BYTES: u64 = 67_108_864;
 
+// The line of the line file of that name.
+pub(crate) fn load_line<S: Shelf>(alloc: Global, shelf: &mut S, name: &str) -> Result<Line, Status>
+    ensures line { IfOk result (λ line. IfSome (S.files shelf.old) (λ files. IsLineOf (files name.now) line)) }
+    ensures stop { IfErr result (LoadStops (S.files shelf.old) (S.faults shelf.old) (S.faults shelf.new) name.now (λ file. LineFile file Never)) }
+    ensures files { S.files shelf.new ≡ S.files shelf.old }
+    ensures later { S.faults shelf.old ≤ S.faults shelf.new }
+{
+    let bytes = fetch_file(alloc, shelf, 1, name)?;
+    Ok(read_line(alloc, bytes.as_slice())?)
+}
+
+// The stock of the stock file of that name.
+pub(crate) fn load_stock<S: Shelf>(
+    alloc: Global,
+    shelf: &mut S,
+    name: &str,
+) -> Result<Stock, Status>
+    ensures stock { IfOk result (λ stock. IfSome (S.files shelf.old) (λ files. IsStockOf (files name.now) stock)) }
+    ensures stop { IfErr result (LoadStops (S.files shelf.old) (S.faults shelf.old) (S.faults shelf.new) name.now (λ file. StockFile file Never)) }
+    ensures files { S.files shelf.new ≡ S.files shelf.old }
+    ensures later { S.faults shelf.old ≤ S.faults shelf.new }
+{
+    let bytes = fetch_file(alloc, shelf, 2, name)?;
+    Ok(read_stock(alloc, bytes.as_slice())?)
+}
+
 // The bytes of a file, which has that number among the files of a form.
-pub(crate) fn fetch_file<S: Shelf>(
+fn fetch_file<S: Shelf>(
     alloc: Global,
     shelf: &mut S,
     number: u32,
@@ -19,6 +48,8 @@ pub(crate) fn fetch_file<S: Shelf>(
 ) -> Result<Vec<u8>, Status>
     ensures ok { IfOk result (λ bytes. Fetched (S.files shelf.old) name.now bytes.items) }
     ensures stop { IfErr result (FetchStops (S.files shelf.old) (S.faults shelf.old) (S.faults shelf.new) number name.now) }
+    ensures files { S.files shelf.new ≡ S.files shelf.old }
+    ensures later { S.faults shelf.old ≤ S.faults shelf.new }
 {
     let mut bytes = Vec::new(alloc);
     match shelf.fetch(name, MOST_BYTES, &mut bytes) {

@@ -2,18 +2,20 @@
 //! output, and says how it ended.
 #![tactic(auto)]
 
-ghost use Rattle.std.specs.Prelude.{◌≡◌, ◌≤◌, ◌⊎◌, None, map, string_bytes, IfSome};
-ghost use Rattle.run_cli.specs.Answers.{Answers};
+ghost use Rattle.std.specs.Prelude.{◌≡◌, ◌≤◌, ◌⊎◌, None, Some, map, length, string_bytes, IfSome};
+ghost use Rattle.run_cli.specs.Answers.{Answers, AnswersBy};
 ghost use Rattle.run_cli.specs.Ends.{EndsAs, EndsWhole, HasCauses, IsQuiet};
 ghost use Rattle.run_cli.specs.Finishes.{FinishesAs};
 ghost use Rattle.run_cli.specs.Stops.{StopsAs, StopsBy};
-ghost use Rattle.run_cli.specs.Words.{form_of, named_files};
+ghost use Rattle.run_cli.specs.Words.{IsForm, files_by, form_of, named_files};
 
+mod bands;
 mod caps;
 mod files;
 mod status;
 mod words;
 
+use crate::bands::run_stock;
 use crate::caps::run_caps;
 use crate::words::{Form, read_form};
 pub use files::MOST_BYTES;
@@ -39,12 +41,12 @@ pub fn run<S: Shelf, I: Source, K: Sink, L: Ledger>(
         → IfSome (S.files shelf.old) (λ files. (result ≡ Status.Memory) ⊎ EndsWhole (Answers (map string_bytes words.now) files) result (K.written out.old) (K.written out.new)) }
     ensures steps { steps.new ≡ steps.old }
 {
-    let stopped = run_form(words, alloc, shelf, out);
+    let stopped = run_words(words, alloc, shelf, out);
     finish(out, stopped)
 }
 
-// Runs the form that the words are, and stops with the status of what is in its way.
-fn run_form<S: Shelf, K: Sink>(
+// Runs the words, and stops with the status of what is in their way.
+fn run_words<S: Shelf, K: Sink>(
     words: &[String],
     alloc: Global,
     shelf: &mut S,
@@ -55,9 +57,25 @@ fn run_form<S: Shelf, K: Sink>(
 {
     match read_form(words) {
         None => Err(Status::Usage),
-        Some(Form::Caps { train, top }) => {
-            run_caps(alloc, shelf, out, words[1].as_str(), train, top)
-        }
+        Some(form) => run_form(form, words, alloc, shelf, out),
+    }
+}
+
+// Runs a form over the files that the words name.
+fn run_form<S: Shelf, K: Sink>(
+    form: Form,
+    words: &[String],
+    alloc: Global,
+    shelf: &mut S,
+    out: &mut K,
+) -> Result<(), Status>
+    requires { IsForm (length words.now) form }
+    ensures ends { IfSome (S.files shelf.old) (λ files. StopsAs (AnswersBy (Some form) (map string_bytes words.now) files) (K.written out.old) (K.written out.new) result) }
+    ensures causes { StopsBy ⊥ (files_by (Some form) (map string_bytes words.now)) (S.files shelf.old) (S.faults shelf.old) (S.faults shelf.new) (K.faults out.old) (K.faults out.new) result }
+{
+    match form {
+        Form::Caps { train, top } => { run_caps(alloc, shelf, out, words[1].as_str(), train, top) }
+        Form::Bands => run_stock(alloc, shelf, out, words[1].as_str()),
     }
 }
 

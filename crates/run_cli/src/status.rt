@@ -2,11 +2,13 @@
 
 ghost use Rattle.std.specs.Prelude.{◌≡◌, ◌++◌, []};
 ghost use Rattle.run_cli.specs.Exits.{exit_of};
-ghost use Rattle.run_cli.specs.Statuses.{line_status, status_text};
-ghost use Rattle.run_cli.specs.declared.status.Status.TheVariants.{WriteFault};
+ghost use Rattle.run_cli.specs.Statuses.{law_rule, line_status, status_text, stock_status};
+ghost use Rattle.run_cli.specs.declared.status.Status.TheVariants.{Memory as NoMemory, WriteFault};
 
 use line_tables::LineFault;
 use run_io::{Failed, Page};
+use stock_tables::StockFault;
+use unit_rules::Memory;
 
 /// How a run ends.
 #[derive(Clone, Copy, Debug, PartialEq, Eq)]
@@ -76,6 +78,39 @@ impl From<Failed> for Status {
     fn from(_: Failed) -> Status {
         Status::WriteFault
     }
+}
+
+impl From<Memory> for Status {
+    ghost from_gives = { λ _ s. s ≡ NoMemory };
+
+    fn from(_: Memory) -> Status {
+        Status::Memory
+    }
+}
+
+impl From<StockFault> for Status {
+    ghost from_gives = { λ e s. s ≡ stock_status e };
+
+    fn from(fault: StockFault) -> Status {
+        let (place, rule) = match fault {
+            StockFault::NotToml => (0, 0),
+            StockFault::Key { key, rule } => (key, rule),
+            StockFault::Law { table, k } => (k, law_rule(table)),
+            StockFault::Memory => return Status::Memory,
+        };
+        Status::Refused {
+            file: 2,
+            place: place as u64,
+            rule,
+        }
+    }
+}
+
+// The rule that a table breaks whose law is broken: 5 for effort, which is key 5, and 6 for brake.
+fn law_rule(table: u32) -> u32
+    ensures { result ≡ law_rule table }
+{
+    if table == 5 { 5 } else { 6 }
 }
 
 impl From<LineFault> for Status {

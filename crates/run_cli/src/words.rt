@@ -1,7 +1,8 @@
 //! The words of a command line, and the forms that they may have.
 
-ghost use Rattle.std.specs.Prelude.{◌≡◌, ◌≤◌, IfSome, IsTrue, map, length, string_bytes};
-ghost use Rattle.run_cli.specs.Words.{IsForm, form_of, is_name};
+ghost use Rattle.std.specs.Prelude.{◌≡◌, ◌≤◌, ◌<◌, IfSome, IsTrue, map, length, string_bytes};
+ghost use Rattle.run_cli.specs.Words.{IsForm, asks, caps_of, form_of, is_name};
+ghost use Rattle.unit_rules.specs.Numeral.{number_in};
 
 use unit_rules::number_in;
 
@@ -10,6 +11,8 @@ use unit_rules::number_in;
 pub(crate) enum Form {
     // The caps of a line for a train of that length in metres and top speed in km/h.
     Caps { train: u32, top: u32 },
+    // The tables of a train.
+    Bands,
 }
 
 // The form of the words, if they are one.
@@ -17,12 +20,32 @@ pub(crate) fn read_form(words: &[String]) -> Option<Form>
     ensures form { result ≡ form_of (map string_bytes words.now) }
     ensures in_range { IfSome result (IsForm (length words.now)) }
 {
-    if words.len() != 4 || words[0].as_str() != "caps" || !is_name(words[1].as_bytes()) {
-        return None;
+    if asks(words, "caps", 4) && is_name(words[1].as_bytes()) {
+        read_caps(words[2].as_bytes(), words[3].as_bytes())
+    } else if asks(words, "stock", 2) && is_name(words[1].as_bytes()) {
+        Some(Form::Bands)
+    } else {
+        None
     }
-    let train = number_in(1, 5000, words[2].as_bytes())?;
-    let top = number_in(1, 500, words[3].as_bytes())?;
+}
+
+// The form `caps` by the words for the train's length and top speed.
+fn read_caps(train: &[u8], top: &[u8]) -> Option<Form>
+    ensures form { result ≡ caps_of (number_in 1 5000 train.now) (number_in 1 500 top.now) }
+    ensures in_range { IfSome result (IsForm 4) }
+{
+    let train = number_in(1, 5000, train)?;
+    let top = number_in(1, 500, top)?;
     Some(Form::Caps { train, top })
+}
+
+// Whether the words are a command of that name, with that many words.
+fn asks(words: &[String], name: &str, count: usize) -> bool
+    requires { 0 < count }
+    ensures asks { result ≡ asks (map string_bytes words.now) name.now count }
+    ensures count { IsTrue result → length words.now ≡ count }
+{
+    words.len() == count && words[0].as_str() == name
 }
 
 // Whether a word may name a file: it doesn't begin with a dash.

@@ -1,0 +1,85 @@
+-- Files that are loaded, and why others are not.
+use Rattle.std.proofs.Common.{◌≡◌, ◌≤◌, ◌<◌, ◌⊎◌, ℕ, List, [], ◌∷◌, length, Option, Some, None, Result, Ok, Err, IfSome, refl, sym, subst, inl, inr, arith}
+use Rattle.std.specs.Io.KnownBytes.{Appends}
+use Rattle.run_io.specs.Causes.{Rose}
+use Rattle.run_io.specs.Fetches.{Files, IsAbsent}
+use Rattle.run_io.specs.Writes.{AppendsFront}
+use Rattle.run_io.proofs.Written.{Appends-nil}
+use Rattle.unit_rules.specs.Memory.{Gives}
+use Rattle.line_tables.specs.LineFile as line
+use Rattle.line_tables.specs.Table.{LineTable}
+use Rattle.stock_tables.specs.StockFile as stock
+use Rattle.stock_tables.specs.Stock.{StockTable}
+use Rattle.stock_tables.specs.declared.StockFault.TheVariants as stock_fault
+use Rattle.run_cli.specs.Answers.{LineFile, StockFile, WithFile, WithTable}
+use Rattle.run_cli.specs.Ends.{CausedBy, EndsShort}
+use Rattle.run_cli.specs.Files.{Fetched, IsLineOf, IsStockOf, LoadStops, Never, most_bytes}
+use Rattle.run_cli.specs.Statuses.{line_status, status_text, stock_status}
+use Rattle.run_cli.specs.Stops.{StopsAs, StopsBy}
+use Rattle.run_cli.specs.declared.status.Status.{Status}
+use Rattle.run_cli.specs.declared.status.Status.TheVariants.{Done, Memory, Usage, ReadFault, WriteFault, Refused, TooLong}
+
+-- a file that is there and was read answers as its table does
+pub WithFile-read : {T E : Type 0} (number : ℕ) (file : Option (List ℕ)) (bytes : List ℕ) (status : E → Status) (reading : List ℕ → Result T E) (table : T) (next : T → Status → List ℕ → Type 0) (s : Status) (t : List ℕ)
+    → file ≡ Some bytes → length bytes ≤ most_bytes → reading bytes ≡ Ok table → next table s t → WithFile number file (λ b. WithTable status (reading b) next) s t
+WithFile-read number file bytes status reading table next s t e short read answer = rw e (inr (short, rw read answer))
+
+-- what refuses a file whatever comes next refuses it here
+WithTable-never : {T E : Type 0} (status : E → Status) (reading : Result T E) (next : T → Status → List ℕ → Type 0) (s : Status) (t : List ℕ)
+    → WithTable status reading Never s t → WithTable status reading next s t
+WithTable-never status (Ok table) next s t h = absurd h
+WithTable-never status (Err fault) next s t h = h
+
+pub WithFile-never : {T E : Type 0} (number : ℕ) (file : Option (List ℕ)) (status : E → Status) (reading : List ℕ → Result T E) (next : T → Status → List ℕ → Type 0) (s : Status) (t : List ℕ)
+    → WithFile number file (λ b. WithTable status (reading b) Never) s t → WithFile number file (λ b. WithTable status (reading b) next) s t
+WithFile-never number None status reading next s t h = h
+WithFile-never number (Some bytes) status reading next s t (inl h) = inl h
+WithFile-never number (Some bytes) status reading next s t (inr h) = inr (h.0, WithTable-never status (reading bytes) next s t h.1)
+
+-- where a file is not loaded, the form stops before anything was written
+pub StopsAs-load : (told : Files) (name : List ℕ) (refuses : Option (List ℕ) → Status → List ℕ → Type 0) (answers : (List ℕ → Option (List ℕ)) → Status → List ℕ → Type 0) (before now : ℕ) (old : Option (List ℕ)) (status : Status)
+    → LoadStops told before now name refuses status → ((files : List ℕ → Option (List ℕ)) (s : Status) (t : List ℕ) → told ≡ Some files → refuses (files name) s t → answers files s t)
+    → IfSome told (λ files. StopsAs (answers files) old old (Err status))
+StopsAs-load None name refuses answers before now old status h more = tt
+StopsAs-load (Some files) name refuses answers before now old Memory h more = inl (Appends-nil old)
+StopsAs-load (Some files) name refuses answers before now old ReadFault h more = Appends-nil old
+StopsAs-load (Some files) name refuses answers before now old (TooLong file) h more = record { answer = more files (TooLong file) (status_text (TooLong file)) refl h; unwritten = Appends-nil old }
+StopsAs-load (Some files) name refuses answers before now old (Refused file place rule) h more =
+    record { answer = more files (Refused file place rule) (status_text (Refused file place rule)) refl h; unwritten = Appends-nil old }
+StopsAs-load (Some files) name refuses answers before now old Done h more = absurd h
+StopsAs-load (Some files) name refuses answers before now old Usage h more = absurd h
+StopsAs-load (Some files) name refuses answers before now old WriteFault h more = absurd h
+
+-- want of memory before anything was written
+pub StopsAs-memory : (told : Files) (answers : (List ℕ → Option (List ℕ)) → Status → List ℕ → Type 0) (old : Option (List ℕ)) (stopped : Result (Unit {0}) Status)
+    → stopped ≡ Err Memory → IfSome told (λ files. StopsAs (answers files) old old stopped)
+StopsAs-memory None answers old stopped e = tt
+StopsAs-memory (Some files) answers old stopped e = rw e (inl (Appends-nil old))
+
+-- a fault of the sink at a front of a text that answers
+StopsAs-short : (answers : Status → List ℕ → Type 0) (text : List ℕ) (old new : Option (List ℕ)) (stopped : Result (Unit {0}) Status) → answers Done text
+    → AppendsFront old new text → stopped ≡ Err WriteFault → StopsAs answers old new stopped
+StopsAs-short answers text old new stopped answer front e = rw e (inr (record { status = Done; text = text; answer = answer; written = front }))
+
+-- the same behind a line file that was read
+pub StopsAs-line : (told : Files) (name : List ℕ) (table : LineTable) (next : LineTable → Status → List ℕ → Type 0) (text : List ℕ) (old new : Option (List ℕ)) (stopped : Result (Unit {0}) Status)
+    → IfSome told (λ files. IsLineOf (files name) table) → next table Done text → AppendsFront old new text → stopped ≡ Err WriteFault
+    → IfSome told (λ files. StopsAs (LineFile (files name) next) old new stopped)
+StopsAs-line None name table next text old new stopped h answer front e = tt
+StopsAs-line (Some files) name table next text old new stopped h answer front e =
+    StopsAs-short (LineFile (files name) next) text old new stopped (WithFile-read 1 (files name) h.bytes line_status line.reading_of table next Done text h.there h.short h.reads answer) front e
+
+-- and behind a stock file
+pub StopsAs-stock : (told : Files) (name : List ℕ) (table : StockTable) (next : StockTable → Status → List ℕ → Type 0) (text : List ℕ) (old new : Option (List ℕ)) (stopped : Result (Unit {0}) Status)
+    → IfSome told (λ files. IsStockOf (files name) table) → next table Done text → AppendsFront old new text → stopped ≡ Err WriteFault
+    → IfSome told (λ files. StopsAs (StockFile (files name) next) old new stopped)
+StopsAs-stock None name table next text old new stopped h answer front e = tt
+StopsAs-stock (Some files) name table next text old new stopped h answer front e =
+    StopsAs-short (StockFile (files name) next) text old new stopped (WithFile-read 2 (files name) h.bytes stock_status stock.reading_of table next Done text h.there h.short h.reads answer) front e
+
+-- a file whose bytes were fetched reads as the stock that was given
+pub IsStockOf-read : (told : Files) (name bytes : List ℕ) (table : StockTable) → Fetched told name bytes → Gives (Err stock_fault.Memory) (stock.reading_of bytes) (Ok table)
+    → IfSome told (λ files. IsStockOf (files name) table)
+IsStockOf-read None name bytes table f g = tt
+IsStockOf-read (Some files) name bytes table f (inl e) = cc e
+IsStockOf-read (Some files) name bytes table f (inr e) = record { bytes = bytes; there = f.same; short = f.short; reads = sym e }
