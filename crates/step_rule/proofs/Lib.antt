@@ -1,2 +1,3 @@
 pub mod MonotoneFacts
 pub mod SpanFacts
+pub mod ToyFacts
