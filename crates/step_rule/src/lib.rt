@@ -89,11 +89,12 @@ impl Rule {
         ensures kept { IsMotion self.now }
     {
         steps.tick();
-        self.up_at(cell, u)
+        pushed(u, self.push.at(u), self.pulls[cell as usize], self.moved)
     }
 
     /// The least squared speed after cell `cell` from squared speed `u` before it: under full
     /// brakes, or at full effort where a hill slows the train more.
+    #[tactic(auto, unfolding(run_rules::specs::Steps::low_from))]
     pub fn low<L: Ledger>(&self, cell: u32, u: u32, steps: &mut Steps<L>) -> i64
         requires cell { cell < cells_of self.now }
         requires in_range { u ≤ most_of self.now }
@@ -101,18 +102,7 @@ impl Rule {
         ensures cost { steps.new ≡ steps.old + 1 }
         ensures kept { IsMotion self.now }
     {
-        steps.tick();
-        self.up_at(cell, u).min(self.fall_at(u))
-    }
-
-    // At full effort.
-    fn up_at(&self, cell: u32, u: u32) -> i64
-        requires cell { cell < cells_of self.now }
-        requires in_range { u ≤ most_of self.now }
-        ensures value { result ≡ (step_rule_of self.now).up cell u }
-        ensures kept { IsMotion self.now }
-    {
-        pushed(u, self.push.at(u), self.pulls[cell as usize], self.moved)
+        self.up(cell, u, steps).min(self.fall_at(u))
     }
 
     // Under full brakes.
