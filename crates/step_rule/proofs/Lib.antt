@@ -1,2 +1,4 @@
+pub mod BrakeFacts
 pub mod MonotoneFacts
 pub mod SpanFacts
+pub mod ToyFacts

@@ -59,6 +59,10 @@ low_from-le : (push brake : List ℤ) (moved : ℕ) (pull : ℤ) (u : ℕ) → l
 unfolding low_from
 low_from-le push brake moved pull u = omega (arith, ints, clamps)
 
+pub low_from-le_fall : (push brake : List ℤ) (moved : ℕ) (pull : ℤ) (u : ℕ) → low_from push brake moved pull u ≤ℤ fall_from brake u
+unfolding low_from
+low_from-le_fall push brake moved pull u = omega (arith, ints, clamps)
+
 -- brakes hold a train that stands
 low_from-zero : (push brake : List ℤ) (moved : ℕ) (pull : ℤ) → pos 12960 ≤ℤ row brake 0 → low_from push brake moved pull 0 <ℤ pos 0
 unfolding low_from fall_from

@@ -3,14 +3,14 @@
 //! A rule gives its numbers by counted calls alone, so no caller evaluates it uncounted.
 #![tactic(auto)]
 
-ghost use Rattle.std.specs.Prelude.{◌≡◌, ℕ, ◌+◌, ◌-◌, ◌^◌, ◌<◌, ◌≤◌, max, pos, neg_ℤ, ◌+ℤ◌, ◌-ℤ◌, ◌≤ℤ◌, All, vec_len};
+ghost use Rattle.std.specs.Prelude.{◌≡◌, ℕ, ◌+◌, ◌^◌, ◌<◌, ◌≤◌, pos, neg_ℤ, ◌+ℤ◌, ◌-ℤ◌, ◌≤ℤ◌, All, vec_len};
 ghost use Rattle.unit_rules.specs.Quotients.{floor_div};
 ghost use Rattle.run_rules.specs.Grids.{row, top_of};
 ghost use Rattle.run_rules.specs.Runs.{IsMonotone};
 ghost use Rattle.run_rules.specs.Steps.{IsPull, fall_from};
 ghost use Rattle.step_rule.specs.Motion.{IsMotion, cells_of, kmh_of, most_of, step_rule_of};
-ghost use Rattle.step_rule.specs.Spans.{IsSpan};
 
+mod search;
 #[cfg(test)]
 mod tests;
 
@@ -36,14 +36,6 @@ impl Model for Rule {
     ghost view = { λ r. record { push = r.push; brake = r.brake; moved = r.moved; pulls = r.pulls.items } };
 
     ghost invariant = { λ r. IsMotion (record { push = r.push; brake = r.brake; moved = r.moved; pulls = r.pulls.items }) };
-}
-
-// A search for the greatest squared speed from which a cell can end at some speed or below: from `at`
-// it can, and from `past` no more.
-#[derive(Drop)]
-struct Span {
-    at: u32,
-    past: u32,
 }
 
 impl Rule {
@@ -97,11 +89,12 @@ impl Rule {
         ensures kept { IsMotion self.now }
     {
         steps.tick();
-        self.up_at(cell, u)
+        pushed(u, self.push.at(u), self.pulls[cell as usize], self.moved)
     }
 
     /// The least squared speed after cell `cell` from squared speed `u` before it: under full
     /// brakes, or at full effort where a hill slows the train more.
+    #[tactic(auto, unfolding(run_rules::specs::Steps::low_from))]
     pub fn low<L: Ledger>(&self, cell: u32, u: u32, steps: &mut Steps<L>) -> i64
         requires cell { cell < cells_of self.now }
         requires in_range { u ≤ most_of self.now }
@@ -109,85 +102,7 @@ impl Rule {
         ensures cost { steps.new ≡ steps.old + 1 }
         ensures kept { IsMotion self.now }
     {
-        steps.tick();
-        self.up_at(cell, u).min(self.fall_at(u))
-    }
-
-    /// The greatest squared speed up to `most` before cell `cell` from which a train can have squared
-    /// speed `w` or less after it. 0 always is one.
-    pub fn back<L: Ledger>(&self, cell: u32, w: u32, most: u32, steps: &mut Steps<L>) -> u32
-        requires cell { cell < cells_of self.now }
-        requires in_range { most ≤ most_of self.now }
-        ensures most { result ≤ most }
-        ensures braked { (step_rule_of self.now).low cell result ≤ℤ pos w }
-        ensures greatest { (u : ℕ) → u ≤ most → (step_rule_of self.now).low cell u ≤ℤ pos w → u ≤ result }
-        ensures cost { steps.new ≤ steps.old + 33 }
-        ensures kept { IsMotion self.now }
-    {
-        let _cells = self.cells();
-        if self.low(cell, most, steps) <= i64::from(w) {
-            return most;
-        }
-        self.halved(cell, w, Span { at: 0, past: most }, steps)
-    }
-
-    // The greatest squared speed of a span from which the cell can end at `w` or below.
-    fn halved<L: Ledger>(&self, cell: u32, w: u32, span: Span, steps: &mut Steps<L>) -> u32
-        requires cell { cell < cells_of self.now }
-        requires in_range { span.past ≤ most_of self.now }
-        requires span { IsSpan (step_rule_of self.now) cell w span.at span.past }
-        ensures within { result < span.past }
-        ensures greatest { IsSpan (step_rule_of self.now) cell w result (result + 1) }
-        ensures cost { (n : ℕ) → span.past ≤ span.at + 2 ^ n → steps.new ≤ steps.old + n }
-    {
-        let mut span = span;
-        while span.past - span.at > 1 {
-            let middle = span.at + (span.past - span.at) / 2;
-            span = self.narrowed(cell, w, span, middle, steps);
-        }
-        span.at
-    }
-
-    // The side of `middle` on which the search goes on.
-    fn narrowed<L: Ledger>(
-        &self,
-        cell: u32,
-        w: u32,
-        span: Span,
-        middle: u32,
-        steps: &mut Steps<L>,
-    ) -> Span
-        requires cell { cell < cells_of self.now }
-        requires in_range { span.past ≤ most_of self.now }
-        requires span { IsSpan (step_rule_of self.now) cell w span.at span.past }
-        requires above { span.at < middle }
-        requires below { middle < span.past }
-        ensures span { IsSpan (step_rule_of self.now) cell w result.at result.past }
-        ensures within { result.past ≤ span.past }
-        ensures narrower { result.past - result.at ≤ max (middle - span.at) (span.past - middle) }
-        ensures cost { steps.new ≡ steps.old + 1 }
-    {
-        if self.low(cell, middle, steps) <= i64::from(w) {
-            Span {
-                at: middle,
-                past: span.past,
-            }
-        } else {
-            Span {
-                at: span.at,
-                past: middle,
-            }
-        }
-    }
-
-    // At full effort.
-    fn up_at(&self, cell: u32, u: u32) -> i64
-        requires cell { cell < cells_of self.now }
-        requires in_range { u ≤ most_of self.now }
-        ensures value { result ≡ (step_rule_of self.now).up cell u }
-        ensures kept { IsMotion self.now }
-    {
-        pushed(u, self.push.at(u), self.pulls[cell as usize], self.moved)
+        self.up(cell, u, steps).min(self.fall_at(u))
     }
 
     // Under full brakes.

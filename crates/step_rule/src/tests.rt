@@ -15,7 +15,7 @@ const FLAT: i64 = 5184000000;
 
 // Pulls on a hill of 100 tenths and then of 200 tenths, with 1 to 10 metres of the train's ten on it,
 // and what a metre adds to the squared speed there.
-const HILLS: [(i64, i64); 20] = [
+const HILLS: [(i64, i32); 20] = [
     (659081319, 17457),
     (1318162637, 14914),
     (1977243956, 12371),
@@ -95,7 +95,7 @@ fn steps_of_the_toy_train(rt: HostRuntime) -> Result<(), Fail> {
         let rule = toy(&rt, rt.alloc(), FLAT, FLAT, pull)?;
         for u in [0, 5000, 36000000] {
             let (up, _low) = bounds::<Brand>(&rule, u, Blank::new(1));
-            assert!(rt; up == i64::from(u) + increment);
+            assert!(rt; up == i64::from(u) + i64::from(increment));
         }
     }
     let level = toy(&rt, rt.alloc(), FLAT, FLAT, 0)?;

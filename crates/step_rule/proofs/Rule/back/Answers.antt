@@ -11,13 +11,18 @@ halved-requires-clause-span g c =
     let fast : pos c.args.w <ℤ (step_rule_of motion).low c.args.cell c.args.most = omega (arith, ints) in
     IsSpan-zero (step_rule_of motion) (cells_of motion) (most_of motion) c.args.cell c.args.w c.args.most c.cells-cells.ensures.monotone c.requires.cell fast
 
-pub returns-clause-greatest : goal.returns-clause-greatest
-returns-clause-greatest g c =
+pub returns-then-most-gt-GUESSED-clause-greatest : goal.returns-then-most-gt-GUESSED-clause-greatest
+returns-then-most-gt-GUESSED-clause-greatest g c =
     let motion = c.args.self.now in
     λ u h. IsSpan-greatest (step_rule_of motion) (cells_of motion) (most_of motion) c.args.cell c.args.w c.halved.result u c.cells-cells.ensures.monotone c.requires.cell c.halved.ensures.greatest (omega arith)
 
-pub returns-clause-cost : goal.returns-clause-cost
-returns-clause-cost g c =
+pub returns-then-most-gt-GUESSED-clause-cost : goal.returns-then-most-gt-GUESSED-clause-cost
+returns-then-most-gt-GUESSED-clause-cost g c =
     let small = most_of-le c.args.self.now c.cells-cells.ensures.kept in
     let few = c.halved.ensures.cost 32 (omega arith) in
     omega arith
+
+pub returns-clause-greatest : goal.returns-clause-greatest
+returns-clause-greatest g c =
+    let motion = c.args.self.now in
+    λ u h. IsSpan-greatest (step_rule_of motion) (cells_of motion) (most_of motion) c.args.cell c.args.w c.guessed.result u c.cells-cells.ensures.monotone c.requires.cell c.guessed.ensures.greatest (omega arith)

@@ -3,11 +3,11 @@ use Rattle.std.proofs.lemmas.Int.{ints, to_z-of_z}
 use Rattle.std.proofs.lemmas.List.{get_or_read}
 use Rattle.run_rules.specs.Steps.{up_from}
 use Rattle.step_rule.specs.Motion.{Motion}
-use Rattle.step_rule.proofs.Rule.up_at.Goals as goal
+use Rattle.step_rule.proofs.Rule.up.Goals as goal
 
 pub returns-clause-value : goal.returns-clause-value
 unfolding up_from
-returns-clause-value c =
+returns-clause-value g c =
     let e = c.self.view_is in
     let cells = ap (λ (t : Motion). length t.pulls) e in
     let read = get_or_read c.self.inside.pulls.items c.args.cell c.index.result.now (omega arith) c.index.ensures (pos 0) in
