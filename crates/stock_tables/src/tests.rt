@@ -211,20 +211,52 @@ fn edge_tables(rt: HostRuntime) -> Result<(), Fail> {
     Ok(())
 }
 
+// The rows at a speed of the toy stock with two changes.
+fn rows_with(alloc: Global, first: Change, second: Change, k: u32) -> Option<(i64, i64)> {
+    match toy_with(alloc, first, second) {
+        Ok(text) => match read_stock(alloc, &text) {
+            Ok(stock) => rows_at(&stock, k),
+            Err(_) => None,
+        },
+        Err(_) => None,
+    }
+}
+
+// The moved mass of the toy stock with two changes.
+fn moved_with(alloc: Global, first: Change, second: Change) -> Option<u32> {
+    match toy_with(alloc, first, second) {
+        Ok(text) => match read_stock(alloc, &text) {
+            Ok(stock) => Some(stock.moved_mass()),
+            Err(_) => None,
+        },
+        Err(_) => None,
+    }
+}
+
 #[test]
-fn rounded_tables(rt: HostRuntime) -> Result<(), Fail> {
-    let rates = b"[[0, 50], [1, 88], [60, 88]]".as_slice();
-    let effort = b"[[0, 20000], [60, 19999]]".as_slice();
-    let text = toy_with(rt.alloc(), (b"brake", rates), (b"effort", effort))?;
-    let stock = read_stock(rt.alloc(), &text)?;
-    assert_eq!(rt; rows_at(&stock, 0), Some((5_184_000_000, 12_960)));
-    assert_eq!(rt; rows_at(&stock, 1), Some((5_183_740_800, 22_809)));
-    let text = toy_with(rt.alloc(), (b"resistance", b"[1, 2, 4]"), NONE)?;
-    let stock = read_stock(rt.alloc(), &text)?;
-    assert_eq!(rt; rows_at(&stock, 0), Some((5_183_740_800, 25_920)));
-    assert_eq!(rt; rows_at(&stock, 1), Some((5_183_739_244, 25_920)));
-    let text = toy_with(rt.alloc(), (b"mass", b"1001"), (b"rotating", b"1"))?;
-    let stock = read_stock(rt.alloc(), &text)?;
-    assert_eq!(rt; stock.moved_mass(), 1003);
-    Ok(())
+fn rounded_tables(rt: HostRuntime) {
+    let alloc = rt.alloc();
+    let rates: Change = (b"brake", b"[[0, 50], [1, 88], [60, 88]]");
+    let effort: Change = (b"effort", b"[[0, 20000], [60, 19999]]");
+    let resistance: Change = (b"resistance", b"[1, 2, 4]");
+    assert_eq!(rt;
+        rows_with(alloc, rates, effort, 0),
+        Some((5_184_000_000, 12_960))
+    );
+    assert_eq!(rt;
+        rows_with(alloc, rates, effort, 1),
+        Some((5_183_740_800, 22_809))
+    );
+    assert_eq!(rt;
+        rows_with(alloc, resistance, NONE, 0),
+        Some((5_183_740_800, 25_920))
+    );
+    assert_eq!(rt;
+        rows_with(alloc, resistance, NONE, 1),
+        Some((5_183_739_244, 25_920))
+    );
+    assert_eq!(rt;
+        moved_with(alloc, (b"mass", b"1001"), (b"rotating", b"1")),
+        Some(1003)
+    );
 }
