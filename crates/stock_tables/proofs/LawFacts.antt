@@ -3,9 +3,8 @@ use Rattle.std.proofs.Common.{◌≡◌, ℕ, ◌+◌, ◌<◌, ◌≤◌, zero,
 use Rattle.std.specs.List.{find, range_with_len}
 use Rattle.std.proofs.lemmas.Bool.{cases_eq}
 use Rattle.std.proofs.lemmas.Int.{ints}
-use Rattle.std.proofs.lemmas.Bool.Decides.{nat_tests}
 use Rattle.run_rules.specs.Grids.{row, top_of, band_width}
-use Rattle.table_laws.specs.Laws.{IsFirstBreak, IsLawful, IsTable, KeepsLaw, KeepsLawAt, Table}
+use Rattle.table_laws.specs.Laws.{IsFirstBreak, KeepsLaw, KeepsLawAt, Table}
 use Rattle.table_laws.specs.declared.Law.{Law}
 use Rattle.table_laws.specs.declared.Law.TheVariants.{Drop, Climb}
 use Rattle.stock_tables.specs.StockFile.{keeps_law, table_by, table_of}

@@ -1,9 +1,8 @@
 -- The tables of push and braking, in their ranges.
-use Rattle.std.proofs.Common.{◌≡◌, ℕ, ◌+◌, ◌-◌, ◌*◌, ◌^◌, ◌<◌, ◌≤◌, ℤ, pos, neg_ℤ, ◌≤ℤ◌, ◌*ℤ◌, List, All, length, map, mul-le-mul, refl, sym, ap, ◌∙◌, arith, Result, Ok, Err, IfOk}
+use Rattle.std.proofs.Common.{◌≡◌, ℕ, ◌+◌, ◌*◌, ◌^◌, ◌≤◌, ℤ, pos, neg_ℤ, ◌≤ℤ◌, ◌*ℤ◌, List, All, length, map, mul-le-mul, refl, ◌∙◌, arith, Result, Ok, Err, IfOk}
 use Rattle.std.specs.List.{range_with_len}
 use Rattle.std.proofs.lemmas.Int.{ints}
 use Rattle.std.proofs.lemmas.List.FromFn.{get_or-map-range_with_len, length-map-range_with_len}
-use Rattle.unit_rules.specs.Quotients.{floor_div}
 use Rattle.unit_rules.proofs.FloorFacts.{floor_div-most, floor_div-mono}
 use Rattle.run_rules.specs.Grids.{row, top_of}
 use Rattle.table_laws.specs.Laws.{IsLawful, IsTable, Table}

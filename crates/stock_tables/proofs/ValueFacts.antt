@@ -1,5 +1,5 @@
 -- The values of a curve up to its top speed.
-use Rattle.std.proofs.Common.{◌≡◌, ℕ, ◌+◌, ◌-◌, ◌<◌, ◌≤◌, suc, ℤ, pos, ◌≤ℤ◌, List, [], ◌∷◌, All, length, map, get_or, add-one, sym, ap, ◌∙◌, arith, inl, inr}
+use Rattle.std.proofs.Common.{◌≡◌, ℕ, ◌+◌, ◌-◌, ◌<◌, ◌≤◌, suc, ℤ, pos, ◌≤ℤ◌, List, [], ◌∷◌, All, length, map, get_or, add-one, ap, ◌∙◌, arith, inl, inr}
 use Rattle.std.specs.List.{range_with_len}
 use Rattle.std.proofs.lemmas.Bool.{cases_lt}
 use Rattle.std.proofs.lemmas.Int.{ints}
@@ -8,7 +8,7 @@ use Rattle.run_rules.specs.Grids.{row}
 use Rattle.run_rules.proofs.GridFacts.{value_between-most, value_between-least}
 use Rattle.stock_tables.specs.declared.curve.Row.{Row}
 use Rattle.stock_tables.specs.Curve.{IsCurveTo, IsRow, speeds, value_at, value_on, values_to}
-use Rattle.stock_tables.proofs.CurveFacts.{RiseTo, find-behind, find-here, last-slow, no_row}
+use Rattle.stock_tables.proofs.CurveFacts.{RiseTo, find-behind, find-here, last-slow}
 
 -- a value that is no less than the rows' and in the range of every table
 pub record IsValue (low : ℕ) (z : ℤ) : Type 0 where

@@ -59,8 +59,8 @@ impl From<AllocError> for StockFault {
 ///
 /// A key breaks rule 1 where it is missing, 2 where its type or shape is another, 3 where a number
 /// is out of range, and 4 where there are fewer than two rows, or their speeds don't rise from 0 to
-/// the top speed. Last come the law of the push, by which it may drop, and that of braking, by which
-/// it may climb.
+/// the top speed. Last come the laws of the tables: from `k` km/h to the next the push drops by at
+/// most 10000·(2k+1) times the moved mass, and the braking climbs by at most 10000·(2k+1).
 pub fn read_stock(alloc: Global, bytes: &[u8]) -> Result<Stock, StockFault>
     ensures { Gives (Err StockFault.Memory) (reading_of bytes.now) result }
 {

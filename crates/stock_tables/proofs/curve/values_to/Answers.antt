@@ -1,4 +1,4 @@
-use Rattle.std.proofs.Common.{◌≡◌, ℤ, SFits, w64, List, [], ◌∷◌, ◌++◌, map, refl, ap, sym, ◌∙◌, arith, rules, to_z, of_z}
+use Rattle.std.proofs.Common.{◌≡◌, SFits, w64, sym, ◌∙◌, arith, rules, to_z, of_z}
 use Rattle.std.proofs.lemmas.Int.{to_z-of_z}
 use Rattle.std.proofs.lemmas.List.FromFn.{map-range_with_len_more}
 use Rattle.stock_tables.proofs.CurveFacts.{IsPassed-later, last-slow, value_at-passed}

@@ -1,6 +1,6 @@
 use Rattle.std.proofs.Common.{◌≡◌, ◌<◌, ◌≤◌, ℕ, length}
 use Rattle.run_rules.specs.Grids.{row}
-use Rattle.stock_tables.specs.Motion.{brake_loss, net_push, resistance_at}
+use Rattle.stock_tables.specs.Motion.{net_push, resistance_at}
 use Rattle.stock_tables.proofs.motion.push_rows.Given as goal
 
 abbrev pub invariant-loop-k : goal.invariant-loop-k

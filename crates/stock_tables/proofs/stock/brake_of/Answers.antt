@@ -1,4 +1,4 @@
-use Rattle.std.proofs.Common.{◌≤◌, ◌≡◌, ℤ, List, arith, ap, ◌∙◌, inr}
+use Rattle.std.proofs.Common.{ℤ, List, arith, ap, ◌∙◌, inr}
 use Rattle.std.proofs.lemmas.Int.{ints}
 use Rattle.table_laws.specs.declared.Law.TheVariants.{Climb}
 use Rattle.stock_tables.specs.StockFile.{table_of}

@@ -1,4 +1,4 @@
-use Rattle.std.proofs.Common.{◌≤◌, ◌≡◌, ℤ, List, arith, ap, ◌∙◌, inr}
+use Rattle.std.proofs.Common.{ℤ, List, arith, ap, ◌∙◌, inr}
 use Rattle.table_laws.specs.declared.Law.TheVariants.{Drop}
 use Rattle.stock_tables.specs.StockFile.{table_of}
 use Rattle.stock_tables.proofs.MotionFacts.{IsTable-push, IsTableTo-push, push_rows-made}
