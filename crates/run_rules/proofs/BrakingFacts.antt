@@ -1,5 +1,5 @@
 -- Braking lists: by the greatest number at each point, and as caps of their own.
-use Rattle.std.proofs.Common.{◌≡◌, ℕ, zero, suc, ◌+◌, ◌-◌, ◌<◌, ◌≤◌, pos, ◌≤ℤ◌, List, length, slice_index, set, arith, sym, ◌∙◌, length-set, get_or-set_same, get_or-set_other, inl, inr}
+use Rattle.std.proofs.Common.{◌≡◌, ℕ, zero, suc, ◌+◌, ◌-◌, ◌<◌, ◌≤◌, pos, ◌≤ℤ◌, List, length, slice_index, set, arith, refl, sym, ◌∙◌, length-set, get_or-set_same, get_or-set_other, inl, inr}
 use Rattle.std.proofs.lemmas.Bool.{cases_eq, cases_lt}
 use Rattle.std.proofs.lemmas.Int.{ints}
 use Rattle.run_rules.specs.Runs.{IsBrakingList, Keeps, StepRule}
@@ -95,6 +95,18 @@ IsGreatestFrom-set rule x c p u same on each number i h l =
     elim (cases_eq i p) [
       | inl e ↦ rw e (IsGreatestNumber-same rule x c (set c p u) p u (slice_index (set c p u) p) (sym (get_or-set_other c p (p + 1) u 0 (omega arith))) (sym (get_or-set_same c p u 0 (omega arith))) number)
       | inr n ↦ IsGreatestNumber-same rule x c (set c p u) i (slice_index c i) (slice_index (set c p u) i) (sym (get_or-set_other c p (i + 1) u 0 (omega arith))) (sym (get_or-set_other c p i u 0 n)) (each i (omega arith) l)
+    ]
+
+-- where the number before p is as it was, so are all below it, and they stand
+pub IsGreatestFrom-stands : (rule : StepRule) (x old c : List ℕ) (p from u : ℕ) → 0 < p → p ≤ from → ((i : ℕ) → i < from → IsGreatestAt rule x old i)
+    → ((i : ℕ) → i < p → slice_index c i ≡ slice_index old i) → IsGreatestFrom rule x c p → IsGreatestNumber rule x c (p - 1) u → u ≡ slice_index c (p - 1) → IsGreatestFrom rule x c 0
+IsGreatestFrom-stands rule x old c p from u some most before kept each number same i z l =
+    elim (cases_lt i p) [
+      | inl h ↦ elim (cases_eq i (p - 1)) [
+        | inl e ↦ rw e (IsGreatestNumber-same rule x c c (p - 1) u (slice_index c (p - 1)) refl same number)
+        | inr n ↦ IsGreatestNumber-same rule x old c i (slice_index old i) (slice_index c i) (sym (kept (i + 1) (omega arith))) (sym (kept i h)) (before i (omega arith))
+      ]
+      | inr h ↦ each i h l
     ]
 
 -- a list keeps the caps exactly where it keeps their braking list
