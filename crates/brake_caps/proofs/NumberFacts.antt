@@ -1,7 +1,6 @@
 -- The greatest number at one point.
 use Rattle.std.proofs.Common.{◌≡◌, ℕ, ◌+◌, ◌<◌, ◌≤◌, pos, ◌≤ℤ◌, List, length, slice_index, arith, subst, sym}
 use Rattle.std.proofs.lemmas.Int.{clamps, ints}
-use Rattle.run_rules.specs.Grids.{row, value_at}
 use Rattle.run_rules.specs.Runs.{StepRule}
 use Rattle.run_rules.specs.Speeds.{squared}
 use Rattle.run_rules.specs.Steps.{fall_from, low_from}

@@ -8,14 +8,18 @@ ghost use Rattle.run_rules.specs.Walks.{IsGreatestAt, IsGreatestNumber};
 ghost use Rattle.limit_profile.specs.Profile.{caps};
 ghost use Rattle.step_rule.specs.Motion.{cells_of, kmh_of, step_rule_of};
 
+#[cfg(test)]
+mod tests;
+
 use limit_profile::Limits;
 use std::sync::ledger::Ledger;
 use step_rule::Rule;
 use unit_rules::Steps;
 
-/// Makes `c` the braking list of a line again, in (0.01 km/h)² by point, where the caps changed at
-/// points `from..=to` alone; with `from` 0 and `to` the last point `c` may hold anything. The answer
-/// is the lowest point below `from` from which on all numbers below `from` changed, or `from`.
+/// Makes `c` the braking list under the caps of `limits`, in (0.01 km/h)² by point, where the numbers
+/// past `to` are right, and those below `from` were right for the numbers that followed them: so it is
+/// after the caps changed at points `from..=to` alone, and over a whole line `c` may hold anything. The
+/// answer is the lowest point below `from` whose number changed, or `from`; all between changed too.
 pub fn walk_back<L: Ledger>(
     rule: &Rule,
     limits: &Limits,
@@ -52,7 +56,7 @@ pub fn walk_back<L: Ledger>(
         lowest -= 1;
         c[lowest as usize] = number;
     }
-    0
+    lowest
 }
 
 // The greatest number at a point from which the train can brake to what is next in `c`.
