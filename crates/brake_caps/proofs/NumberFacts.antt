@@ -13,9 +13,13 @@ pub IsGreatestNumber-cap : (rule : StepRule) (x c : List ℕ) (i cap : ℕ) → 
 IsGreatestNumber-cap rule x c i cap same brakes = record { capped = omega arith; braked = brakes; greatest = λ v h f. omega arith }
 
 -- before the last point, the greatest number up to the cap that brakes to the next
-pub IsGreatestNumber-below : (rule : StepRule) (x c : List ℕ) (i cap u : ℕ) → cap ≡ slice_index x i → i + 1 < length x → u ≤ cap → rule.low i u ≤ℤ pos (slice_index c (i + 1))
-    → ((v : ℕ) → v ≤ cap → rule.low i v ≤ℤ pos (slice_index c (i + 1)) → v ≤ u) → IsGreatestNumber rule x c i u
-IsGreatestNumber-below rule x c i cap u same on most brakes greatest = record { capped = omega arith; braked = λ l. brakes; greatest = λ v h f. greatest v (omega arith) (f on) }
+pub IsGreatestNumber-below : (rule : StepRule) (x c : List ℕ) (i cap next u : ℕ) → u ≤ cap → rule.low i u ≤ℤ pos next → ((v : ℕ) → v ≤ cap → rule.low i v ≤ℤ pos next → v ≤ u)
+    → cap ≡ slice_index x i → next ≡ slice_index c (i + 1) → i + 1 < length x → IsGreatestNumber rule x c i u
+IsGreatestNumber-below rule x c i cap next u most brakes greatest same follows on = record {
+  capped = omega arith;
+  braked = λ l. rw (← follows) brakes;
+  greatest = λ v h f. greatest v (omega arith) (rw follows (f on));
+}
 
 -- brakes always slow
 fall_from-le : (motion : Motion) → IsMotion motion → (u : ℕ) → u ≤ most_of motion → fall_from motion.brake.rows u ≤ℤ pos u

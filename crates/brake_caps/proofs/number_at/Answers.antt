@@ -23,4 +23,5 @@ returns-clause-number g c =
     let limits = c.args.limits.now in
     let long = length-caps limits in
     let back = c.back.ensures in
-    IsGreatestNumber-below (step_rule_of c.args.rule.now) (caps limits) c.args.c.now c.args.point c.cap-cap.result c.back.result c.cap-cap.ensures.listed (omega arith) back.most back.braked back.greatest
+    let cap = c.cap-cap.ensures.listed in
+    IsGreatestNumber-below (step_rule_of c.args.rule.now) (caps limits) c.args.c.now c.args.point _ _ c.back.result back.most back.braked back.greatest (omega arith) (omega arith) (omega arith)

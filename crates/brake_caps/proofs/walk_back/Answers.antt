@@ -68,7 +68,7 @@ loop-lowest-preserved g c =
       kept = λ i h. get_or-set_other list p i number 0 (omega arith) ∙ old.kept i (omega arith);
       kept_past = λ i h. get_or-set_other list p i number 0 (omega (arith, old.most)) ∙ old.kept_past i h;
       changed = λ i h l. elim (cases_eq i p) [
-        | inl e ↦ λ same. c.if-number-c.false (sym (get_or-set_same list p number 0 (omega (arith, old.points, old.most))) ∙ (rw e at same) ∙ sym (old.kept p (omega arith)))
+        | inl e ↦ λ same. omega (arith, get_or-set_same list p number 0 (omega (arith, old.points, old.most)), rw e at same, old.kept p (omega arith), c.if-number-c.false)
         | inr n ↦ λ same. old.changed i (omega arith) l (sym (get_or-set_other list p i number 0 n) ∙ same)
       ];
       most = omega arith;
@@ -83,7 +83,7 @@ returns-then-number-c-clause-list g c =
     let rule = step_rule_of c.args.rule.now in
     let limits = c.args.limits.now in
     let long = length-caps limits in
-    let each = IsGreatestFrom-stands rule (caps limits) c.args.c.now c.loop-lowest.c c.loop-lowest.lowest c.args.from c.number_at-number.result c.loop-lowest-test.true old.most c.requires.before old.kept old.right c.number_at-number.ensures.number c.if-number-c.true in
+    let each = IsGreatestFrom-stands rule (caps limits) c.args.c.now c.loop-lowest.c c.loop-lowest.lowest c.args.from c.number_at-number.result (omega (arith, c.loop-lowest-test.true)) old.most c.requires.before old.kept old.right c.number_at-number.ensures.number (omega (arith, c.if-number-c.true)) in
     braking_list_by_points rule (caps limits) c.loop-lowest.c (omega (arith, old.points)) (λ i l. each i (omega arith) l)
 
 pub returns-clause-list : goal.returns-clause-list
