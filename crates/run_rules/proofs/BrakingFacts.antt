@@ -1,7 +1,9 @@
 -- Braking lists: by the greatest number at each point, and as caps of their own.
-use Rattle.std.proofs.Common.{◌≡◌, ℕ, zero, suc, ◌+◌, ◌-◌, ◌<◌, ◌≤◌, pos, ◌≤ℤ◌, List, length, slice_index, set, arith, refl, sym, ◌∙◌, length-set, get_or-set_same, get_or-set_other, inl, inr}
+use Rattle.std.proofs.Common.{◌≡◌, ℕ, zero, suc, ◌+◌, ◌-◌, ◌<◌, ◌≤◌, pos, ◌≤ℤ◌, List, length, replicate, slice_index, set, arith, refl, sym, ◌∙◌, length-set, get_or-set_same, get_or-set_other, inl, inr}
 use Rattle.std.proofs.lemmas.Bool.{cases_eq, cases_lt}
 use Rattle.std.proofs.lemmas.Int.{ints}
+use Rattle.std.proofs.lemmas.List.{get_or-replicate, length-replicate}
+use Rattle.run_rules.specs.Laws.{BrakesAlikeBelow, BrakesAlikePast, DifferWithin, StandingBrakes}
 use Rattle.run_rules.specs.Runs.{IsBrakingList, Keeps, StepRule}
 use Rattle.run_rules.specs.Walks.{IsGreatestAt, IsGreatestNumber}
 use Rattle.run_rules.proofs.RunFacts.{keeps_less}
@@ -148,3 +150,52 @@ IsBraked-braking_list rule x c top list small =
       small = λ i l. let under = list.keeps.capped i (omega arith) in let cap = small i (omega arith) in omega arith;
       braked = λ i l. list.keeps.braked i (omega arith);
     }
+
+-- a train that stands everywhere stands at each point
+slice_index-standing : (n i : ℕ) → i < n → slice_index (replicate n 0) i ≡ 0
+slice_index-standing n i l = get_or-replicate {A = ℕ} n i 0 0 l
+
+pub standing_brakes : StandingBrakes
+standing_brakes rule x top mono = record {
+  same_points = length-replicate {A = ℕ} (length x) 0;
+  capped = λ i l. rw (slice_index-standing (length x) i l) (omega arith);
+  braked = λ i l. rw (slice_index-standing (length x) i (omega arith), slice_index-standing (length x) (i + 1) l) (let stops = mono.stops i (omega arith) in omega (arith, ints));
+  driven = λ i l. absurd (omega arith);
+  moving = λ i l. absurd (omega arith);
+}
+
+-- braking lists agree at a point where their caps do and where they agree at the next
+IsGreatestAt-agree : (rule : StepRule) (x y c d : List ℕ) (i : ℕ) → length x ≡ length y → slice_index x i ≡ slice_index y i → (i + 1 < length x → slice_index c (i + 1) ≡ slice_index d (i + 1))
+    → IsGreatestAt rule x c i → IsGreatestAt rule y d i → slice_index c i ≡ slice_index d i
+IsGreatestAt-agree rule x y c d i same cap next a b =
+    let capped = a.capped in
+    let under = b.capped in
+    let most = a.greatest (slice_index d i) (omega arith) (λ l. rw (next l) (b.braked (omega arith))) in
+    let least = b.greatest (slice_index c i) (omega arith) (λ l. rw (← next (omega arith)) (a.braked (omega arith))) in
+    omega arith
+
+-- so they agree from the end of the line down to the caps that differ, with n points past i
+agree_past : (rule : StepRule) (x y c d : List ℕ) (from to : ℕ) → DifferWithin x y from to → IsBrakingList rule x c → IsBrakingList rule y d
+    → (n i : ℕ) → to < i → i + n + 1 ≡ length x → slice_index c i ≡ slice_index d i
+agree_past rule x y c d from to differ a b zero i h e =
+    let same = differ.same_points in
+    IsGreatestAt-agree rule x y c d i same (differ.outside i (inr h)) (λ l. absurd (omega arith)) (points_by_braking_list rule x c a i (omega arith)) (points_by_braking_list rule y d b i (omega arith))
+agree_past rule x y c d from to differ a b (suc n) i h e =
+    let same = differ.same_points in
+    let next = agree_past rule x y c d from to differ a b n (i + 1) (omega arith) (omega arith) in
+    IsGreatestAt-agree rule x y c d i same (differ.outside i (inr h)) (λ l. next) (points_by_braking_list rule x c a i (omega arith)) (points_by_braking_list rule y d b i (omega arith))
+
+pub brakes_alike_past : BrakesAlikePast
+brakes_alike_past rule x y c d from to i differ a b h l = agree_past rule x y c d from to differ a b (length x - i - 1) i h (omega arith)
+
+-- and from a point below them down, n points below it
+agree_below : (rule : StepRule) (x y c d : List ℕ) (from to j : ℕ) → DifferWithin x y from to → IsBrakingList rule x c → IsBrakingList rule y d → j < from → j < length x → slice_index c j ≡ slice_index d j
+    → (n i : ℕ) → i + n ≡ j → slice_index c i ≡ slice_index d i
+agree_below rule x y c d from to j differ a b h l there zero i e = let here : i ≡ j = omega arith in rw here there
+agree_below rule x y c d from to j differ a b h l there (suc n) i e =
+    let same = differ.same_points in
+    let next = agree_below rule x y c d from to j differ a b h l there n (i + 1) (omega arith) in
+    IsGreatestAt-agree rule x y c d i same (differ.outside i (inl (omega arith))) (λ k. next) (points_by_braking_list rule x c a i (omega arith)) (points_by_braking_list rule y d b i (omega arith))
+
+pub brakes_alike_below : BrakesAlikeBelow
+brakes_alike_below rule x y c d from to i j differ a b h l there m = agree_below rule x y c d from to j differ a b h l there (j - i) i (omega arith)
