@@ -1,3 +1,4 @@
+pub mod BrakingFacts
 pub mod GridFacts
 pub mod RunFacts
 pub mod SpeedFacts

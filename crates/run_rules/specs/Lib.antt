@@ -4,3 +4,4 @@ pub mod Laws
 pub mod Runs
 pub mod Speeds
 pub mod Steps
+pub mod Walks

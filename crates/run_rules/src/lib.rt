@@ -4,7 +4,7 @@
 
 ghost use Rattle.std.specs.Prelude.{◌≡◌, ◌+◌, ◌≤◌, ◌<◌, ◌^◌, ℕ};
 ghost use Rattle.run_rules.specs.Caps.{binds_at};
-ghost use Rattle.run_rules.specs.Laws.{GreaterKeeps, RunsOrStalls, StallsOnce};
+ghost use Rattle.run_rules.specs.Laws.{BrakesAlikeBelow, BrakesAlikePast, GreaterKeeps, RunsOrStalls, StallsOnce, StandingBrakes};
 ghost use Rattle.run_rules.specs.Speeds.{squared};
 
 use unit_rules::Zone;
@@ -28,9 +28,14 @@ pub fn binds_at(length: u32, train: u32, point: u32, zone: Zone) -> bool
 
 /// The laws of runs that follow from the definitions alone, whatever the step rule: the greater of
 /// two lists that keep the rule keeps it too, a train is stalled at one point at most, and at none
-/// where there is a run.
+/// where there is a run. A train that stands everywhere brakes by the rule. The braking lists under
+/// caps that differ at some points alone agree past these, and below any point before these at which
+/// they agree.
 pub fn laws_of_runs()
     ensures greater { GreaterKeeps }
     ensures once { StallsOnce }
     ensures either { RunsOrStalls }
+    ensures standing { StandingBrakes }
+    ensures alike_past { BrakesAlikePast }
+    ensures alike_below { BrakesAlikeBelow }
 {}

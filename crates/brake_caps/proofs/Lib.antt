@@ -1,0 +1,2 @@
+pub mod LevelFacts
+pub mod NumberFacts

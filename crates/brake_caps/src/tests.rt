@@ -1,0 +1,98 @@
+//! What the definitions mean in numbers, for a toy train of 259200 kg whose brakes take 25920 from its
+//! squared speed at each metre.
+
+ghost use Rattle.std.specs.Prelude.{◌≡◌, length, replicate, IfOk};
+ghost use Rattle.step_rule.specs.Motion.{cells_of, kmh_of};
+
+use super::*;
+use std::alloc::{AllocError, Global};
+use std::marker::Brand;
+use std::process::Abort;
+use std::sync::ledger::Blank;
+use std::test::Fail;
+use table_laws::{Bands, Law};
+use unit_rules::{Bound, Memory};
+
+const TOP: u32 = 36000000;
+
+// Braking lists of a level line of ten metres, by the greatest squared speed at its two ends.
+const LISTS: [(u32, u32, [u32; 11]); 4] = [
+    (
+        0,
+        0,
+        [
+            0, 233280, 207360, 181440, 155520, 129600, 103680, 77760, 51840, 25920, 0,
+        ],
+    ),
+    (
+        TOP,
+        1,
+        [
+            259201, 233281, 207361, 181441, 155521, 129601, 103681, 77761, 51841, 25921, 1,
+        ],
+    ),
+    (
+        0,
+        TOP,
+        [0, TOP, TOP, TOP, TOP, TOP, TOP, TOP, TOP, TOP, TOP],
+    ),
+    (TOP, TOP, [TOP; 11]),
+];
+
+// The same value at 0 to 60 km/h.
+fn rows(alloc: Global, value: i64) -> Result<Vec<i64>, AllocError>
+    ensures { IfOk result (λ rows. rows.items ≡ replicate 61 value) }
+{
+    vec![in alloc; value; 61]
+}
+
+// The rule of the toy train on a level line of ten cells.
+fn toy(rt: &impl Abort, alloc: Global) -> Result<Rule, Fail>
+    ensures top { IfOk result (λ rule. kmh_of rule ≡ 60) }
+    ensures cells { IfOk result (λ rule. cells_of rule ≡ 10) }
+{
+    let effort = Law::Drop { per: 259200 };
+    let push = Bands::new(rows(alloc, 5184000000)?, effort).expect(rt, "lawful");
+    let brake = Bands::new(rows(alloc, 25920)?, Law::Climb).expect(rt, "lawful");
+    Ok(Rule::new(push, brake, 259200, vec![in alloc; 0; 10]?))
+}
+
+// The limits of that line for a train of ten metres, with bounds at its two ends alone.
+fn bounded(alloc: Global, first: u32, last: u32) -> Result<Limits, Memory>
+    ensures top { IfOk result (λ limits. limits.top ≡ 60) }
+    ensures length { IfOk result (λ limits. limits.length ≡ 10) }
+{
+    let ends = [Bound { at: 0, most: first }, Bound { at: 10, most: last }];
+    Limits::new(alloc, 10, 10, 60, &[], &ends)
+}
+
+// Walks back over the whole line.
+fn brake<L: Ledger>(rule: &Rule, limits: &Limits, c: &mut [u32], blank: Blank) -> u32
+    requires name { blank.name ≡ L.name }
+    requires parts { blank.parts ≡ L.parts }
+    requires one { blank.parts ≡ 1 }
+    requires cells { cells_of rule.now ≡ 10 }
+    requires same_length { limits.now.length ≡ 10 }
+    requires kmh { kmh_of rule.now ≡ 60 }
+    requires same_top { limits.now.top ≡ 60 }
+    requires points { length c.old ≡ 11 }
+{
+    let mut steps = Steps::<L>::new(blank);
+    walk_back(rule, limits, 0, 10, c, &mut steps)
+}
+
+#[test]
+fn braking_lists_of_the_toy_train(rt: HostRuntime) -> Result<(), Fail> {
+    let rule = toy(&rt, rt.alloc())?;
+    for (first, last, list) in LISTS {
+        let limits = bounded(rt.alloc(), first, last);
+        assert!(rt; limits.is_ok());
+        let Ok(limits) = limits else {
+            return Ok(());
+        };
+        let mut c = [7; 11];
+        assert!(rt; brake::<Brand>(&rule, &limits, &mut c, Blank::new(1)) == 0);
+        assert!(rt; c == list, "bounds {first} and {last}");
+    }
+    Ok(())
+}

@@ -1,0 +1,65 @@
+-- What the walk back, which makes a braking list, and the walk on, which makes an envelope, say of one point at a time.
+-- A walk that begins again inside a line says with these words which of the older numbers stand.
+use Rattle.std.specs.Prelude.{◌≡◌, ℕ, ◌+◌, ◌<◌, ◌≤◌, pos, ◌≤ℤ◌, ◌⊎◌, List, length, slice_index, take, Option, Some, None, if◌then◌else◌, nat_lt}
+use Rattle.unit_rules.specs.declared.Reach.{Reach}
+use Rattle.unit_rules.specs.declared.Reach.TheVariants.{Whole, Stalled}
+use Rattle.run_rules.specs.Runs.{IsBrakingList, IsEnvelopeTo, IsGreatestRun, IsStalled, StepRule}
+
+-- u is the greatest number up to the cap at point i from which the train can brake to what c has at the next point; at
+-- the last point the cap alone binds
+pub record IsGreatestNumber (rule : StepRule) (x c : List ℕ) (i u : ℕ) : Type 0 where
+  pub capped : u ≤ slice_index x i
+  pub braked : i + 1 < length x → rule.low i u ≤ℤ pos (slice_index c (i + 1))
+  pub greatest : (v : ℕ) → v ≤ slice_index x i → (i + 1 < length x → rule.low i v ≤ℤ pos (slice_index c (i + 1))) → v ≤ u
+
+-- c has that number at point i
+abbrev pub IsGreatestAt : StepRule → List ℕ → List ℕ → ℕ → Type 0
+IsGreatestAt rule x c i = IsGreatestNumber rule x c i (slice_index c i)
+
+-- w is the greatest number after cell i that the caps c and full effort from what e has at point i allow, and not a
+-- second standstill
+pub record IsNextNumber (rule : StepRule) (c e : List ℕ) (i w : ℕ) : Type 0 where
+  pub capped : w ≤ slice_index c (i + 1)
+  pub driven : pos w ≤ℤ rule.up i (slice_index e i)
+  pub moving : 1 ≤ slice_index e i + w
+  pub greatest : (u : ℕ) → u ≤ slice_index c (i + 1) → pos u ≤ℤ rule.up i (slice_index e i) → u ≤ w
+
+-- there is no such number: each that the caps and full effort allow would be a second standstill
+abbrev pub IsBlockedAfter : StepRule → List ℕ → List ℕ → ℕ → Type 0
+IsBlockedAfter rule c e i = (u : ℕ) → u ≤ slice_index c (i + 1) → pos u ≤ℤ rule.up i (slice_index e i) → u + slice_index e i < 1
+
+-- the first n numbers of e are driven as fast as the caps c allow, to the end of the line or to where there is no next
+pub record EndsAt (rule : StepRule) (c e : List ℕ) (n : ℕ) : Type 0 where
+  pub some : 1 ≤ n
+  pub on_line : n ≤ length c
+  pub first : slice_index e 0 ≡ slice_index c 0
+  pub each : (i : ℕ) → i + 1 < n → IsNextNumber rule c e i (slice_index e (i + 1))
+  pub blocked : (i : ℕ) → i + 1 ≡ n → n < length c → IsBlockedAfter rule c e i
+
+-- e ended at n under older caps, which agree with c outside from..=to
+pub record IsOlderWalk (rule : StepRule) (c e : List ℕ) (from to n : ℕ) : Type 0 where
+  pub older : List ℕ
+  pub same_points : length older ≡ length c
+  pub agrees : (i : ℕ) → (i < from) ⊎ (to < i) → slice_index older i ≡ slice_index c i
+  pub ends : EndsAt rule older e n
+
+-- the first n numbers of e are the envelope under older caps, which are their own braking list, are at most top and
+-- agree with c outside from..=to
+pub record IsOlderEnvelope (rule : StepRule) (top : ℕ) (c e : List ℕ) (from to n : ℕ) : Type 0 where
+  pub older : List ℕ
+  pub same_points : length older ≡ length c
+  pub small : (i : ℕ) → i < length older → slice_index older i ≤ top
+  pub list : IsBrakingList rule older older
+  pub agrees : (i : ℕ) → (i < from) ⊎ (to < i) → slice_index older i ≡ slice_index c i
+  pub on_line : n ≤ length older
+  pub whole : n ≡ length older → IsGreatestRun rule older e
+  pub stalled : n < length older → IsStalled rule older n × IsEnvelopeTo rule older (take n e) n
+
+-- the number of e at point i, where its first n are known
+abbrev pub known_at : List ℕ → ℕ → ℕ → Option ℕ
+known_at e n i = if nat_lt i n then Some (slice_index e i) else None
+
+-- how many numbers the envelope has on a line of so many points
+abbrev pub count_of : ℕ → Reach → ℕ
+count_of points Whole = points
+count_of points (Stalled k) = k
