@@ -1,4 +1,5 @@
 pub mod Caps
+pub mod Drives
 pub mod Grids
 pub mod Laws
 pub mod Runs

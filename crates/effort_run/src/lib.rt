@@ -1,0 +1,187 @@
+//! The walk on over a line: the greatest squared speeds at full effort under caps that brake, to the
+//! end of the line or to where no train gets.
+#![tactic(auto)]
+
+ghost use Rattle.std.specs.Prelude.{◌≡◌, ◌≢◌, ℕ, ◌+◌, ◌<◌, ◌≤◌, pos, ◌≤ℤ◌, ◌↔◌, List, length, slice_index, IfNone, IfSome, IsTrue, Some};
+ghost use Rattle.run_rules.specs.Drives.{IsOnlyReach, reach_of};
+ghost use Rattle.run_rules.specs.Runs.{IsBrakingList, ReachesAs};
+ghost use Rattle.run_rules.specs.Walks.{EndsAt, IsBlockedAfter, IsNextNumber, IsOlderEnvelope, IsOlderWalk, count_of, known_at};
+ghost use Rattle.step_rule.specs.Motion.{cells_of, most_of, step_rule_of};
+ghost use Rattle.effort_run.specs.Next.{IsNext};
+
+use std::sync::ledger::Ledger;
+use step_rule::Rule;
+use unit_rules::{Reach, Steps};
+
+/// How far the train gets, and how far its speeds changed.
+#[derive(Drop)]
+pub struct Walk {
+    /// To the end of the line, or the stalled point.
+    pub reach: Reach,
+    /// The last point whose number may differ from before.
+    pub last: u32,
+}
+
+/// Makes `e` the envelope under `c`: the greatest squared speeds by point, up to the end of the line
+/// or its stall. `c`, taken as caps, is its own braking list, and no number of it is past the
+/// train's top speed.
+///
+/// A first walk has `known` 0 and the whole line as `from..=to`. In a repeated one the first `known`
+/// numbers of `e` are the envelope of an older list, which agrees with `c` outside `from..=to`; the
+/// walk then ends at the first number past `to` that is as before.
+pub fn walk_on<L: Ledger>(
+    rule: &Rule,
+    c: &[u32],
+    from: u32,
+    to: u32,
+    e: &mut [u32],
+    known: u32,
+    steps: &mut Steps<L>,
+) -> Walk
+    requires points { length c.now ≡ cells_of rule.now + 1 }
+    requires same_points { length e.old ≡ length c.now }
+    requires in_range { (i : ℕ) → i < length c.now → slice_index c.now i ≤ most_of rule.now }
+    requires ordered { from ≤ to }
+    requires on_line { to ≤ cells_of rule.now }
+    requires braking_list { IsBrakingList (step_rule_of rule.now) c.now c.now }
+    requires first { known ≡ 0 → (from ≡ 0) × (to ≡ cells_of rule.now) }
+    requires older { 1 ≤ known
+        → IsOlderEnvelope (step_rule_of rule.now) (most_of rule.now) c.now e.old from to known }
+    ensures reach { ReachesAs (step_rule_of rule.now) c.now e.new result.reach }
+    ensures only { IsOnlyReach (step_rule_of rule.now) c.now result.reach }
+    // it is the envelope under the caps too that `c` is the braking list of
+    ensures under_caps { (x : List ℕ) → IsBrakingList (step_rule_of rule.now) x c.now
+        → ReachesAs (step_rule_of rule.now) x e.new result.reach }
+    ensures last_least { to ≤ result.last }
+    ensures last_most { result.last ≤ cells_of rule.now }
+    ensures same_before { let n = count_of (length c.now) result.reach in
+        (i : ℕ) → i < from → known_at e.new n i ≡ known_at e.old known i }
+    ensures same_past { let n = count_of (length c.now) result.reach in
+        (i : ℕ) → result.last < i → known_at e.new n i ≡ known_at e.old known i }
+    ensures differs { let n = count_of (length c.now) result.reach in
+        (i : ℕ) → to < i → i ≤ result.last → known_at e.new n i ≢ known_at e.old known i }
+    ensures cost { steps.new + from ≤ steps.old + result.last + 2 }
+    ensures first_cost { known ≡ 0 → steps.new ≤ steps.old + cells_of rule.now }
+{
+    let cells = rule.cells();
+    let drive = drive_on(rule, c, from, to, e, known, steps);
+    Walk {
+        reach: reach_with(drive.known, cells),
+        last: drive.last,
+    }
+}
+
+// How many numbers are known, and the last point whose number may differ from before.
+#[derive(Drop)]
+struct Drive {
+    known: u32,
+    last: u32,
+}
+
+// Drives on from the cell before point `from`, until there is no next number or the older ones stand.
+fn drive_on<L: Ledger>(
+    rule: &Rule,
+    c: &[u32],
+    from: u32,
+    to: u32,
+    e: &mut [u32],
+    known: u32,
+    steps: &mut Steps<L>,
+) -> Drive
+    requires points { length c.now ≡ cells_of rule.now + 1 }
+    requires same_points { length e.old ≡ length c.now }
+    requires in_range { (i : ℕ) → i < length c.now → slice_index c.now i ≤ most_of rule.now }
+    requires ordered { from ≤ to }
+    requires on_line { to ≤ cells_of rule.now }
+    requires first { known ≡ 0 → (from ≡ 0) × (to ≡ cells_of rule.now) }
+    requires older { 1 ≤ known → IsOlderWalk (step_rule_of rule.now) c.now e.old from to known }
+    ensures ends { EndsAt (step_rule_of rule.now) c.now e.new result.known }
+    ensures last_least { to ≤ result.last }
+    ensures last_most { result.last ≤ cells_of rule.now }
+    ensures same_before { (i : ℕ) → i < from → known_at e.new result.known i ≡ known_at e.old known i }
+    ensures same_past { (i : ℕ) → result.last < i → known_at e.new result.known i ≡ known_at e.old known i }
+    ensures differs { (i : ℕ) → to < i → i ≤ result.last
+        → known_at e.new result.known i ≢ known_at e.old known i }
+    ensures cost { steps.new + from ≤ steps.old + result.last + 2 }
+    ensures first_cost { known ≡ 0 → steps.new ≤ steps.old + cells_of rule.now }
+{
+    let cells = rule.cells();
+    if known < from {
+        return Drive { known, last: to };
+    }
+    if from == 0 {
+        e[0] = c[0];
+    }
+    for i in from.saturating_sub(1)..cells {
+        match number_after(rule, c, i, e, steps) {
+            None => {
+                return Drive {
+                    known: i + 1,
+                    last: to.max(known.max(i + 1) - 1),
+                };
+            }
+            Some(number) => {
+                if i >= to && stands(e, known, i + 1, number) {
+                    return Drive { known, last: i };
+                }
+                e[i as usize + 1] = number;
+            }
+        }
+    }
+    Drive {
+        known: cells + 1,
+        last: cells,
+    }
+}
+
+// The number after cell `i`, if there is one.
+fn number_after<L: Ledger>(
+    rule: &Rule,
+    c: &[u32],
+    i: u32,
+    e: &[u32],
+    steps: &mut Steps<L>,
+) -> Option<u32>
+    requires cell { i < cells_of rule.now }
+    requires points { length c.now ≡ cells_of rule.now + 1 }
+    requires same_points { length e.now ≡ length c.now }
+    requires in_range { slice_index e.now i ≤ most_of rule.now }
+    ensures next { IfSome result (λ w. IsNextNumber (step_rule_of rule.now) c.now e.now i w) }
+    ensures none { IfNone result (IsBlockedAfter (step_rule_of rule.now) c.now e.now i) }
+    ensures cost { steps.new ≡ steps.old + 1 }
+{
+    let now = e[i as usize];
+    let up = rule.up(i, now, steps);
+    next_speed(now, up, c[i as usize + 1])
+}
+
+// The greatest squared speed that `cap` and `up` allow, unless it is a standstill after another.
+fn next_speed(now: u32, up: i64, cap: u32) -> Option<u32>
+    ensures next { IfSome result (λ w. IsNext now up cap w) }
+    ensures none { IfNone result ((u : ℕ) → u ≤ cap → pos u ≤ℤ up → u + now < 1) }
+{
+    let most = up.min(i64::from(cap));
+    if most < 0 || now == 0 && most == 0 {
+        return None;
+    }
+    Some(most as u32)
+}
+
+// Whether `number` was known at `point`.
+fn stands(e: &[u32], known: u32, point: u32, number: u32) -> bool
+    requires { point < length e.now }
+    ensures { IsTrue result ↔ (known_at e.now known point ≡ Some number) }
+{
+    point < known && e[point as usize] == number
+}
+
+// The reach of an envelope with `known` numbers on a line of `cells` cells.
+fn reach_with(known: u32, cells: u32) -> Reach
+    ensures { result ≡ reach_of (cells + 1) known }
+{
+    if known > cells {
+        Reach::Whole
+    } else {
+        Reach::Stalled { k: known }
+    }
+}

@@ -1,0 +1,47 @@
+-- A walk on that begins again inside a line, where the caps before `from` and past `to` are those of an older walk.
+use Rattle.std.proofs.Common.{◌≡◌, ℕ, ◌+◌, ◌<◌, ◌≤◌, List, length, slice_index, ◌⊎◌, inl, inr, ap, arith, refl, sym, ◌∙◌, Some, None}
+use Rattle.std.proofs.lemmas.Bool.{cases_lt}
+use Rattle.std.proofs.lemmas.Bool.Decides.{nat_tests}
+use Rattle.std.specs.Prelude.{if◌then◌else◌, nat_lt}
+use Rattle.run_rules.specs.Runs.{StepRule}
+use Rattle.run_rules.specs.Walks.{EndsAt, IsOlderWalk, known_at}
+use Rattle.run_rules.proofs.DrivingFacts.{IsBlockedAfter-same, IsDriven, IsNextNumber-same}
+
+-- the older numbers before the change are driven
+pub IsDriven-older : (rule : StepRule) (c e : List ℕ) (from to n m : ℕ) → IsOlderWalk rule c e from to n → 1 ≤ from → m ≤ n → m ≤ from → IsDriven rule c e m
+IsDriven-older rule c e from to n m walk some known before = record {
+  first = walk.ends.first ∙ walk.agrees 0 (inl some);
+  each = λ i l. IsNextNumber-same rule walk.older c e e i (slice_index e (i + 1)) (slice_index e (i + 1)) (walk.agrees (i + 1) (inl (omega arith))) refl refl (walk.ends.each i (omega arith));
+}
+
+-- a walk that ended before the change ends there still
+pub EndsAt-before : (rule : StepRule) (c e : List ℕ) (from to n : ℕ) → IsOlderWalk rule c e from to n → n < from → EndsAt rule c e n
+EndsAt-before rule c e from to n walk l =
+    let driven = IsDriven-older rule c e from to n n walk (omega arith) (omega arith) (omega arith) in
+    record {
+      some = walk.ends.some;
+      on_line = let same = walk.same_points in let on = walk.ends.on_line in omega arith;
+      first = driven.first;
+      each = driven.each;
+      blocked = λ i last h. IsBlockedAfter-same rule walk.older c e e i (walk.agrees (i + 1) (inl (omega arith))) refl (walk.ends.blocked i last (let same = walk.same_points in omega arith));
+    }
+
+-- past the change, from a number on that is as before, all numbers are as before
+pub EndsAt-resumed : (rule : StepRule) (c old e : List ℕ) (from to n i : ℕ) → IsOlderWalk rule c old from to n → to < i → i < n → IsDriven rule c e (i + 1)
+    → ((j : ℕ) → i ≤ j → slice_index e j ≡ slice_index old j) → EndsAt rule c e n
+EndsAt-resumed rule c old e from to n i walk past known driven same = record {
+  some = walk.ends.some;
+  on_line = let long = walk.same_points in let on = walk.ends.on_line in omega arith;
+  first = driven.first;
+  each = λ j l. elim (cases_lt j i) [
+    | inl h ↦ driven.each j (omega arith)
+    | inr h ↦ IsNextNumber-same rule walk.older c old e j (slice_index old (j + 1)) (slice_index e (j + 1)) (walk.agrees (j + 1) (inr (omega arith))) (sym (same j h)) (sym (same (j + 1) (omega arith))) (walk.ends.each j l)
+  ];
+  blocked = λ j last h. IsBlockedAfter-same rule walk.older c old e j (walk.agrees (j + 1) (inr (omega arith))) (sym (same j (omega arith))) (walk.ends.blocked j last (let long = walk.same_points in omega arith));
+}
+
+pub known_at-some : (e : List ℕ) (n i w : ℕ) → known_at e n i ≡ Some w → (i < n) × (slice_index e i ≡ w)
+known_at-some e n i w h = grind (arith, nat_tests)
+
+pub known_at-same : (d e : List ℕ) (n i : ℕ) → slice_index d i ≡ slice_index e i → known_at d n i ≡ known_at e n i
+known_at-same d e n i h = ap (λ w. if nat_lt i n then Some w else None) h
