@@ -37,10 +37,12 @@ impl Rule {
         requires in_range { most ≤ most_of self.now }
         ensures most { result ≤ most }
         ensures braked { (step_rule_of self.now).low cell result ≤ℤ pos w }
-        ensures greatest { (u : ℕ) → u ≤ most → (step_rule_of self.now).low cell u ≤ℤ pos w → u ≤ result }
+        ensures greatest { (u : ℕ) → u ≤ most
+            → (step_rule_of self.now).low cell u ≤ℤ pos w → u ≤ result }
         ensures cost { steps.new ≤ steps.old + 33 }
         // where full brakes end the cell at `w` or below from there, as they do but on steep hills
-        ensures quick { most ≤ 2 ^ 31 → fall_from self.now.brake.rows result ≤ℤ pos w → steps.new ≤ steps.old + 2 }
+        ensures quick { most ≤ 2 ^ 31 → fall_from self.now.brake.rows result ≤ℤ pos w
+            → steps.new ≤ steps.old + 2 }
         ensures kept { IsMotion self.now }
     {
         let _cells = self.cells();
@@ -121,7 +123,8 @@ impl Rule {
         requires above { span.at < middle }
         requires below { middle < span.past }
         ensures span { IsSpan (step_rule_of self.now) cell w result.at result.past }
-        ensures side { ((result.at ≡ middle) × (result.past ≡ span.past)) ⊎ ((result.at ≡ span.at) × (result.past ≡ middle)) }
+        ensures side { ((result.at ≡ middle) × (result.past ≡ span.past))
+            ⊎ ((result.at ≡ span.at) × (result.past ≡ middle)) }
         ensures cost { steps.new ≡ steps.old + 1 }
     {
         if self.low(cell, middle, steps) <= i64::from(w) {
@@ -178,7 +181,8 @@ impl Rule {
     fn kmh_braked_from(&self, w: u32) -> u32
         ensures in_range { result ≤ kmh_of self.now }
         ensures braked { fall_from self.now.brake.rows (squared result) ≤ℤ pos w }
-        ensures greatest { result < kmh_of self.now → pos w <ℤ fall_from self.now.brake.rows (squared (result + 1)) }
+        ensures greatest { result < kmh_of self.now
+            → pos w <ℤ fall_from self.now.brake.rows (squared (result + 1)) }
         ensures kept { IsMotion self.now }
     {
         let top = self.top();
