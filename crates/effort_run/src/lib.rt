@@ -185,3 +185,6 @@ fn reach_with(known: u32, cells: u32) -> Reach
         Reach::Stalled { k: known }
     }
 }
+
+#[cfg(test)]
+mod tests;

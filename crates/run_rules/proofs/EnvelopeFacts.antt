@@ -1,5 +1,5 @@
 -- The envelope is driven as fast as its caps allow: what is greatest among all lists is the greatest at each point.
-use Rattle.std.proofs.Common.{◌≡◌, ℕ, zero, suc, ◌+◌, ◌-◌, ◌<◌, ◌≤◌, min, ℤ, pos, negsuc, ◌≤ℤ◌, List, length, slice_index, take, set, add-one, ap, arith, refl, subst, sym, ◌∙◌, length-set, inl, inr}
+use Rattle.std.proofs.Common.{◌≡◌, ℕ, zero, suc, ◌+◌, ◌-◌, ◌<◌, ◌≤◌, min, ℤ, pos, negsuc, ◌≤ℤ◌, List, length, slice_index, take, set, ap, arith, refl, subst, sym, ◌∙◌, length-set, inl, inr}
 use Rattle.std.proofs.lemmas.Bool.{cases_lt}
 use Rattle.std.proofs.lemmas.Int.{ints}
 use Rattle.std.proofs.lemmas.List.{get_or-take, take_all}
