@@ -90,7 +90,7 @@ IsEnvelopeTo-run rule c e k points same run =
     }
 
 -- so an envelope ends where its run does, or its stall is
-EndsAt-envelope : (rule : StepRule) (c e : List ℕ) (k : ℕ) → IsDrivable rule c → length e ≡ length c → k < length c → (k + 1 ≡ length c → IsGreatestRun rule c e)
+pub EndsAt-envelope : (rule : StepRule) (c e : List ℕ) (k : ℕ) → IsDrivable rule c → length e ≡ length c → k < length c → (k + 1 ≡ length c → IsGreatestRun rule c e)
     → (k + 1 < length c → IsStalled rule c (k + 1) × IsEnvelopeTo rule c (take (k + 1) e) (k + 1)) → EndsAt rule c e (k + 1)
 EndsAt-envelope rule c e k line same on whole stalled =
     elim (cases_lt (k + 1) (length c)) [
