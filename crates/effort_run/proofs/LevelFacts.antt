@@ -1,8 +1,8 @@
 -- Tables that have one value at all speeds, and a train whose brakes are such a table.
-use Rattle.std.proofs.Common.{◌≡◌, ℕ, ◌+◌, ◌-◌, ◌^◌, ◌<◌, ◌≤◌, ℤ, pos, neg_ℤ, ◌≤ℤ◌, ◌-ℤ◌, List, length, slice_index, replicate, arith, refl, sym, ◌∙◌, ap}
+use Rattle.std.proofs.Common.{◌≡◌, ℕ, ◌+◌, ◌^◌, ◌<◌, ◌≤◌, ℤ, pos, ◌≤ℤ◌, ◌-ℤ◌, List, length, slice_index, replicate, arith, refl, ◌∙◌, ap}
 use Rattle.std.proofs.lemmas.Int.{ints, clamps}
 use Rattle.std.proofs.lemmas.List.{get_or-replicate, length-replicate}
-use Rattle.run_rules.specs.Grids.{row, top_of, value_at}
+use Rattle.run_rules.specs.Grids.{row, top_of}
 use Rattle.run_rules.specs.Runs.{IsBrakingList}
 use Rattle.run_rules.specs.Speeds.{squared}
 use Rattle.run_rules.specs.Steps.{fall_from, low_from}

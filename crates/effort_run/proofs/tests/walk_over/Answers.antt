@@ -1,4 +1,4 @@
-use Rattle.std.proofs.Common.{◌≡◌, ℕ, ◌+◌, ◌<◌, ◌≤◌, length, rules, slice_index, true}
+use Rattle.std.proofs.Common.{◌≡◌, ℕ, ◌<◌, ◌≤◌, length, rules, slice_index, true}
 use Rattle.step_rule.specs.Motion.{kmh_of}
 use Rattle.effort_run.proofs.LevelFacts.{IsBrakingList-level, most-level}
 use Rattle.effort_run.proofs.tests.walk_over.Goals as goal
