@@ -3,7 +3,7 @@
 #![tactic(auto)]
 
 ghost use Rattle.std.specs.Prelude.{◌≡◌, ◌≢◌, ℕ, ◌+◌, ◌<◌, ◌≤◌, pos, ◌≤ℤ◌, ◌↔◌, List, length, slice_index, IfNone, IfSome, IsTrue, Some};
-ghost use Rattle.run_rules.specs.Drives.{IsOnlyReach, reach_of};
+ghost use Rattle.run_rules.specs.Drives.{EnvelopesAgreeAfter, EnvelopesAgreeBefore, IsOnlyReach, reach_of};
 ghost use Rattle.run_rules.specs.Runs.{IsBrakingList, ReachesAs};
 ghost use Rattle.run_rules.specs.Walks.{EndsAt, IsBlockedAfter, IsNextNumber, IsOlderEnvelope, IsOlderWalk, count_of, known_at};
 ghost use Rattle.step_rule.specs.Motion.{cells_of, most_of, step_rule_of};
@@ -70,6 +70,14 @@ pub fn walk_on<L: Ledger>(
         last: drive.last,
     }
 }
+
+/// The laws of envelopes that follow from the definitions alone, under caps that agree outside
+/// `from..=to`: the envelopes agree before `from`, and from a point on at which they agree past the
+/// change.
+pub fn laws_of_envelopes()
+    ensures before { EnvelopesAgreeBefore }
+    ensures after { EnvelopesAgreeAfter }
+{}
 
 // How many numbers are known, and the last point whose number may differ from before.
 #[derive(Drop)]
@@ -185,3 +193,6 @@ fn reach_with(known: u32, cells: u32) -> Reach
         Reach::Stalled { k: known }
     }
 }
+
+#[cfg(test)]
+mod tests;

@@ -1,5 +1,5 @@
 -- Numbers that are driven as fast as their caps allow, from point 0 up.
-use Rattle.std.proofs.Common.{◌≡◌, ℕ, zero, suc, ◌+◌, ◌-◌, ◌<◌, ◌≤◌, ℤ, pos, negsuc, ◌≤ℤ◌, List, length, slice_index, take, drop, set, ◌++◌, add-one, append-nil, arith, ap₂, refl, subst, sym, ◌∙◌, length-set, get_or-set_same, get_or-set_other, inl, inr}
+use Rattle.std.proofs.Common.{◌≡◌, ℕ, zero, suc, ◌+◌, ◌-◌, ◌<◌, ◌≤◌, ℤ, pos, negsuc, ◌≤ℤ◌, List, length, slice_index, take, drop, set, ◌++◌, add-one, append-nil, arith, ap₂, refl, subst, sym, ◌∙◌, get_or-set_same, get_or-set_other, inl, inr}
 use Rattle.std.proofs.lemmas.Bool.{cases_eq, cases_lt}
 use Rattle.std.proofs.lemmas.Int.{ints}
 use Rattle.std.proofs.lemmas.List.{places, take_at, length-take-le, get_or-take, take_all, drop_all}

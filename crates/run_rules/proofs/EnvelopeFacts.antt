@@ -1,5 +1,5 @@
 -- The envelope is driven as fast as its caps allow: what is greatest among all lists is the greatest at each point.
-use Rattle.std.proofs.Common.{◌≡◌, ℕ, zero, suc, ◌+◌, ◌-◌, ◌<◌, ◌≤◌, min, ℤ, pos, negsuc, ◌≤ℤ◌, List, length, slice_index, take, set, add-one, ap, arith, refl, subst, sym, ◌∙◌, length-set, inl, inr}
+use Rattle.std.proofs.Common.{◌≡◌, ℕ, zero, suc, ◌+◌, ◌-◌, ◌<◌, ◌≤◌, min, ℤ, pos, negsuc, ◌≤ℤ◌, List, length, slice_index, take, set, ap, arith, refl, subst, sym, ◌∙◌, length-set, inl, inr}
 use Rattle.std.proofs.lemmas.Bool.{cases_lt}
 use Rattle.std.proofs.lemmas.Int.{ints}
 use Rattle.std.proofs.lemmas.List.{get_or-take, take_all}
@@ -90,7 +90,7 @@ IsEnvelopeTo-run rule c e k points same run =
     }
 
 -- so an envelope ends where its run does, or its stall is
-EndsAt-envelope : (rule : StepRule) (c e : List ℕ) (k : ℕ) → IsDrivable rule c → length e ≡ length c → k < length c → (k + 1 ≡ length c → IsGreatestRun rule c e)
+pub EndsAt-envelope : (rule : StepRule) (c e : List ℕ) (k : ℕ) → IsDrivable rule c → length e ≡ length c → k < length c → (k + 1 ≡ length c → IsGreatestRun rule c e)
     → (k + 1 < length c → IsStalled rule c (k + 1) × IsEnvelopeTo rule c (take (k + 1) e) (k + 1)) → EndsAt rule c e (k + 1)
 EndsAt-envelope rule c e k line same on whole stalled =
     elim (cases_lt (k + 1) (length c)) [

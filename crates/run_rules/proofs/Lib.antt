@@ -1,3 +1,4 @@
+pub mod AgreeFacts
 pub mod BrakingFacts
 pub mod DrivingFacts
 pub mod EnvelopeFacts

@@ -1,9 +1,9 @@
 -- What holds of every step rule and all lists of numbers.
-use Rattle.std.proofs.Common.{◌≡◌, ◌≢◌, ℕ, ◌+◌, ◌-◌, ◌<◌, ◌≤◌, ℤ, pos, ◌≤ℤ◌, List, length, slice_index, max, ◌⊎◌, inl, inr, arith}
+use Rattle.std.proofs.Common.{◌≡◌, ℕ, ◌+◌, ◌-◌, ◌<◌, ◌≤◌, pos, ◌≤ℤ◌, List, length, slice_index, max, ◌⊎◌, inl, inr, arith}
 use Rattle.std.proofs.lemmas.Int.{ints}
 use Rattle.std.proofs.lemmas.Bool.{cases_lt}
 use Rattle.run_rules.specs.Laws.{GreaterKeeps, IsGreaterOf, RunsOrStalls, StallsOnce}
-use Rattle.run_rules.specs.Runs.{IsMonotone, IsRun, IsStalled, Keeps, StepRule}
+use Rattle.run_rules.specs.Runs.{IsMonotone, IsStalled, Keeps, StepRule}
 
 -- the greater of two numbers is one of them
 max-either : (a b m : ℕ) → m ≡ max a b → (m ≡ a) ⊎ (m ≡ b)

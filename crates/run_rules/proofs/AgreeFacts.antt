@@ -1,0 +1,137 @@
+-- Where two envelopes agree: each number follows from the one before it and from the cap at its point.
+use Rattle.std.proofs.Common.{◌≡◌, ℕ, zero, suc, ◌+◌, ◌-◌, ◌<◌, ◌≤◌, List, length, slice_index, take, add-one, ap, arith, refl, subst, sym, ◌∙◌, inl, inr, Some, None}
+use Rattle.std.proofs.lemmas.Bool.{cases_lt}
+use Rattle.std.proofs.lemmas.Bool.Decides.{nat_tests}
+use Rattle.unit_rules.specs.declared.Reach.{Reach}
+use Rattle.unit_rules.specs.declared.Reach.TheVariants.{Whole, Stalled}
+use Rattle.run_rules.specs.Drives.{AgreeAt, AgreeOutside, EnvelopesAgreeAfter, EnvelopesAgreeBefore, HoldsEnvelope}
+use Rattle.run_rules.specs.Runs.{IsEnvelopeTo, IsMonotone, IsStalled, ReachesAs, StepRule}
+use Rattle.run_rules.specs.Walks.{EndsAt, IsOlderEnvelope, count_of, known_at}
+use Rattle.run_rules.proofs.DrivingFacts.{IsDrivable, IsDrivable-braking_list, IsNextNumber-same}
+use Rattle.run_rules.proofs.EnvelopeFacts.{EndsAt-envelope}
+use Rattle.run_rules.proofs.ResumeFacts.{known_at-some}
+
+EndsAt-reaches : (rule : StepRule) (cells : ℕ) (c e : List ℕ) (reach : Reach) → IsDrivable rule c → length c ≡ cells + 1 → length e ≡ length c → ReachesAs rule c e reach → EndsAt rule c e (count_of (length c) reach)
+EndsAt-reaches rule cells c e Whole line points same run =
+    subst (λ n. EndsAt rule c e n) (sym points) (EndsAt-envelope rule c e cells line same (omega arith) (λ h. run) (λ h. absurd (omega arith)))
+EndsAt-reaches rule cells c e (Stalled k) line points same stall =
+    let some = stall.0.on_line.0 in
+    let on = stall.0.on_line.1 in
+    let back : k - 1 + 1 ≡ k = omega arith in
+    subst (λ n. EndsAt rule c e n) back (EndsAt-envelope rule c e (k - 1) line same (omega arith) (λ h. absurd (omega arith))
+    (λ h. subst (λ n. IsStalled rule c n × IsEnvelopeTo rule c (take n e) n) (sym back) stall))
+
+EndsAt-holds : (rule : StepRule) (cells top : ℕ) (c e : List ℕ) (n : ℕ) → IsMonotone rule cells top → length c ≡ cells + 1 → HoldsEnvelope rule top c e n → EndsAt rule c e n
+EndsAt-holds rule cells top c e n mono points holds =
+    let line = IsDrivable-braking_list rule c cells top mono points holds.small holds.list in
+    subst (λ k. EndsAt rule c e k) holds.reaches.2 (EndsAt-reaches rule cells c e holds.reaches.0 line points holds.same_points holds.reaches.1)
+
+known_at-known : (e : List ℕ) (n i : ℕ) → i < n → known_at e n i ≡ Some (slice_index e i)
+known_at-known e n i l = grind (arith, nat_tests)
+
+known_at-missing : (e : List ℕ) (n i : ℕ) → n ≤ i → known_at e n i ≡ None
+known_at-missing e n i l = grind (arith, nat_tests)
+
+-- where both numbers are missing they agree
+AgreeAt-missing : (d e : List ℕ) (n m i : ℕ) → n ≤ i → m ≤ i → AgreeAt d n e m i
+AgreeAt-missing d e n m i h l = known_at-missing d n i h ∙ sym (known_at-missing e m i l)
+
+AgreeAt-known : (d e : List ℕ) (n m i : ℕ) → i < n → i < m → slice_index d i ≡ slice_index e i → AgreeAt d n e m i
+AgreeAt-known d e n m i h l same = known_at-known d n i h ∙ ap (λ w. Some w) same ∙ sym (known_at-known e m i l)
+
+-- a number that is known in one list is the same in the other
+AgreeAt-number : (d e : List ℕ) (n m i : ℕ) → AgreeAt d n e m i → i < n → (i < m) × (slice_index e i ≡ slice_index d i)
+AgreeAt-number d e n m i agree l = known_at-some e m i (slice_index d i) (sym agree ∙ known_at-known d n i l)
+
+-- from the same number and the same cap comes the same next number
+next_number-same : (rule : StepRule) (b c d e : List ℕ) (n m i : ℕ) → length b ≡ length c → EndsAt rule b d n → EndsAt rule c e m → slice_index b (i + 1) ≡ slice_index c (i + 1)
+    → slice_index d i ≡ slice_index e i → i < m → i + 1 < n → (i + 1 < m) × (slice_index d (i + 1) ≡ slice_index e (i + 1))
+next_number-same rule b c d e n m i same first second cap now known l =
+    let on = first.on_line in
+    let number = IsNextNumber-same rule b c d e i (slice_index d (i + 1)) (slice_index d (i + 1)) cap now refl (first.each i l) in
+    elim (cases_lt (i + 1) m) [
+      | inl h ↦
+          let other = second.each i h in
+          let most = number.greatest (slice_index e (i + 1)) other.capped other.driven in
+          let least = other.greatest (slice_index d (i + 1)) number.capped number.driven in
+          (h, omega arith)
+      | inr h ↦
+          let stands = second.blocked i (omega arith) (omega arith) (slice_index d (i + 1)) number.capped number.driven in
+          let moves = number.moving in
+          absurd (omega arith)
+    ]
+
+-- so what agrees at a point agrees at the next, where the caps do
+AgreeAt-next : (rule : StepRule) (b c d e : List ℕ) (n m i : ℕ) → length b ≡ length c → EndsAt rule b d n → EndsAt rule c e m → slice_index b (i + 1) ≡ slice_index c (i + 1)
+    → AgreeAt d n e m i → AgreeAt d n e m (i + 1)
+AgreeAt-next rule b c d e n m i same first second cap agree =
+    elim (cases_lt i n) [
+      | inl l ↦
+          let number = AgreeAt-number d e n m i agree l in
+          elim (cases_lt (i + 1) n) [
+            | inl h ↦ let next = next_number-same rule b c d e n m i same first second cap (sym number.1) number.0 h in AgreeAt-known d e n m (i + 1) h next.0 next.1
+            | inr h ↦ elim (cases_lt (i + 1) m) [
+              | inl k ↦ let next = next_number-same rule c b e d m n i (sym same) second first (sym cap) number.1 l k in absurd (omega (arith, next.0))
+              | inr k ↦ AgreeAt-missing d e n m (i + 1) h k
+            ]
+          ]
+      | inr l ↦ elim (cases_lt i m) [
+        | inl h ↦ let number = AgreeAt-number e d m n i (sym agree) h in absurd (omega (arith, number.0))
+        | inr h ↦ AgreeAt-missing d e n m (i + 1) (omega arith) (omega arith)
+      ]
+    ]
+
+AgreeAt-before : (rule : StepRule) (b c d e : List ℕ) (from to n m : ℕ) → AgreeOutside b c from to → EndsAt rule b d n → EndsAt rule c e m → (i : ℕ) → i < from → AgreeAt d n e m i
+AgreeAt-before rule b c d e from to n m caps first second zero l =
+    let some = first.some in
+    let other_some = second.some in
+    AgreeAt-known d e n m 0 (omega arith) (omega arith) (first.first ∙ caps.agrees 0 (inl l) ∙ sym second.first)
+AgreeAt-before rule b c d e from to n m caps first second (suc i) l =
+    let before = AgreeAt-before rule b c d e from to n m caps first second i (omega arith) in
+    rw add-one at (AgreeAt-next rule b c d e n m i caps.same_points first second (caps.agrees (i + 1) (inl (omega arith))) before)
+
+AgreeAt-after : (rule : StepRule) (b c d e : List ℕ) (from to n m i : ℕ) → AgreeOutside b c from to → EndsAt rule b d n → EndsAt rule c e m → to ≤ i → AgreeAt d n e m i → (t j : ℕ) → j ≡ i + t → AgreeAt d n e m j
+AgreeAt-after rule b c d e from to n m i caps first second past agree zero j at = let same : j ≡ i = omega arith in rw same agree
+AgreeAt-after rule b c d e from to n m i caps first second past agree (suc t) j at =
+    let before = AgreeAt-after rule b c d e from to n m i caps first second past agree t (i + t) refl in
+    let next : j ≡ i + t + 1 = omega arith in
+    rw next (AgreeAt-next rule b c d e n m (i + t) caps.same_points first second (caps.agrees (i + t + 1) (inr (omega arith))) before)
+
+pub envelopes_agree_before : EnvelopesAgreeBefore
+envelopes_agree_before rule cells top from to b c d e n m mono points caps one other =
+    let same = caps.same_points in
+    AgreeAt-before rule b c d e from to n m caps (EndsAt-holds rule cells top b d n mono (omega arith) one) (EndsAt-holds rule cells top c e m mono points other)
+
+pub envelopes_agree_after : EnvelopesAgreeAfter
+envelopes_agree_after rule cells top from to b c d e n m mono points caps one other i j past later agree =
+    let same = caps.same_points in
+    AgreeAt-after rule b c d e from to n m i caps (EndsAt-holds rule cells top b d n mono (omega arith) one) (EndsAt-holds rule cells top c e m mono points other) past agree (j - i) j (omega arith)
+
+-- an envelope that is held is an older one, where its caps agree with c outside from..=to
+pub IsOlderEnvelope-reaches : (rule : StepRule) (top from to : ℕ) (b c e : List ℕ) (reach : Reach) → AgreeOutside b c from to → HoldsEnvelope rule top b e (count_of (length b) reach) → ReachesAs rule b e reach
+    → IsOlderEnvelope rule top c e from to (count_of (length b) reach)
+IsOlderEnvelope-reaches rule top from to b c e Whole caps holds run = record {
+  older = b;
+  same_points = caps.same_points;
+  small = holds.small;
+  list = holds.list;
+  agrees = caps.agrees;
+  on_line = omega arith;
+  whole = λ h. run;
+  stalled = λ h. absurd (omega arith);
+}
+IsOlderEnvelope-reaches rule top from to b c e (Stalled k) caps holds stall = let on = stall.0.on_line.1 in record {
+  older = b;
+  same_points = caps.same_points;
+  small = holds.small;
+  list = holds.list;
+  agrees = caps.agrees;
+  on_line = omega arith;
+  whole = λ h. absurd (omega arith);
+  stalled = λ h. stall;
+}
+
+pub IsOlderEnvelope-holds : (rule : StepRule) (top from to : ℕ) (b c e : List ℕ) (n : ℕ) → AgreeOutside b c from to → HoldsEnvelope rule top b e n → IsOlderEnvelope rule top c e from to n
+IsOlderEnvelope-holds rule top from to b c e n caps holds =
+    let same = holds.reaches.2 in
+    subst (λ k. IsOlderEnvelope rule top c e from to k) same (IsOlderEnvelope-reaches rule top from to b c e holds.reaches.0 caps (subst (λ k. HoldsEnvelope rule top b e k) (sym same) holds) holds.reaches.1)
