@@ -11,10 +11,20 @@ Each file of tests/cases/ is TOML and has tables `[[case]]` with
     stdout  a place to which the output goes in place of a pipe, as "/dev/full" or "closed"
     status  the exit status that is wanted (none: 0)
     output  the whole output that is wanted, or
-    spans   the output as runs of points with one number: [[first, last, "number"], ..]
+    spans   the output as runs of points with one text: [[first, last, "text"], ..]; after the lines
+            of `head`, where the case has these, or
+    begins  the lines with which the output begins, and
+    has     the list of whole lines that stand in the output, anywhere
 
 and tables `[[table]]`, each with `words`, `name`, the name `file` of one file, and `rows` of three:
-the content of the file (records parted by ` / `), the output without its line end, and the status.
+the content of the file (records parted by ` / `), the output in the same way, and the status. Beside
+them a table may have
+
+    files   more files, as a case has them
+    base    the text that each row changes: a record `KEY = ..` of a row stands in place of the line
+            with that key, or after the last line; `no KEY` takes the line out
+    wants   how the outputs of the rows are read: "output" (which is meant without it) or "begins"
+
 The program is started in a new folder that holds those files alone.
 """
 
@@ -39,14 +49,63 @@ def content_of(given):
 
 def output_of(case):
     """The output that a case wants."""
-    if "spans" in case:
-        lines = (
-            f"{point} {number}\n"
-            for first, last, number in case["spans"]
-            for point in range(first, last + 1)
-        )
-        return "".join(lines).encode()
-    return case["output"].encode()
+    if "spans" not in case:
+        return case["output"].encode()
+    lines = (
+        f"{point} {text}\n"
+        for first, last, text in case["spans"]
+        for point in range(first, last + 1)
+    )
+    return (case.get("head", "") + "".join(lines)).encode()
+
+
+def is_wanted(case, output):
+    """Whether an output is one that a case wants."""
+    if "begins" not in case and "has" not in case:
+        return output == output_of(case)
+    lines = output.split(b"\n")
+    begins = output.startswith(case.get("begins", "").encode())
+    return begins and all(line.encode() in lines[:-1] for line in case.get("has", []))
+
+
+def wanted_of(case):
+    """The output that a case wants, as a failed case shows it."""
+    if "begins" not in case and "has" not in case:
+        return shown(output_of(case))
+    return f"{case.get('begins', '')!r} .. {case.get('has', [])!r}"
+
+
+def lines_of(records):
+    """The text of records that are parted by ` / `."""
+    return "".join(f"{record}\n" for record in records.split(" / ")) if records else ""
+
+
+def key_of(line):
+    """The key of a line `KEY = ..`."""
+    return line.split("=")[0].strip()
+
+
+def changed(base, records):
+    """The text `base`, changed by the records of a row."""
+    lines = {key_of(line): line for line in base.splitlines()}
+    for record in records.split(" / "):
+        if record.startswith("no "):
+            del lines[record.removeprefix("no ")]
+        elif record:
+            lines[key_of(record)] = record
+    return "".join(f"{line}\n" for line in lines.values())
+
+
+def case_of(table, content, output, status):
+    """The case of a row of a table."""
+    text = changed(table["base"], content) if "base" in table else lines_of(content)
+    return {
+        "name": f"{table['name']}: {content}",
+        "words": table["words"],
+        "files": {**table.get("files", {}), table["file"]: text},
+        table.get("wants", "output"): lines_of(output),
+        "status": status,
+    }
 
 
 def cases_of(path):
@@ -54,15 +113,8 @@ def cases_of(path):
     tables = tomllib.loads(path.read_text())
     yield from tables.get("case", [])
     for table in tables.get("table", []):
-        for content, output, status in table["rows"]:
-            text = "".join(f"{record}\n" for record in content.split(" / ")) if content else ""
-            yield {
-                "name": f"{table['name']}: {content}",
-                "words": table["words"],
-                "files": {table["file"]: text},
-                "output": output + "\n",
-                "status": status,
-            }
+        for row in table["rows"]:
+            yield case_of(table, *row)
 
 
 def run(case, folder):
@@ -92,15 +144,14 @@ def main():
         for case in cases_of(path):
             with tempfile.TemporaryDirectory() as folder:
                 status, output = run(case, pathlib.Path(folder))
-            wanted = case.get("status", 0), output_of(case)
-            if (status, output) == wanted:
+            if status == case.get("status", 0) and is_wanted(case, output):
                 passed += 1
                 continue
             failed += 1
             print(f"FAILED {path.name}: {case['name']}")
-            print(f"  status {status}, wanted {wanted[0]}")
+            print(f"  status {status}, wanted {case.get('status', 0)}")
             print(f"  output {shown(output)}")
-            print(f"  wanted {shown(wanted[1])}")
+            print(f"  wanted {wanted_of(case)}")
     print(f"{passed} passed, {failed} failed")
     return 1 if failed or not passed else 0
 
