@@ -12,7 +12,7 @@ use Rattle.stock_tables.specs.StockFile as stock
 use Rattle.stock_tables.specs.Stock.{StockTable}
 use Rattle.stock_tables.specs.declared.StockFault.TheVariants as stock_fault
 use Rattle.run_cli.specs.Answers.{LineFile, StockFile, WithFile, WithTable}
-use Rattle.run_cli.specs.Ends.{CausedBy, EndsShort}
+use Rattle.run_cli.specs.Ends.{CausedBy, EndsShort, EndsWhole}
 use Rattle.run_cli.specs.Files.{Fetched, IsLineOf, IsStockOf, LoadStops, Never, most_bytes}
 use Rattle.run_cli.specs.Statuses.{line_status, status_text, stock_status}
 use Rattle.run_cli.specs.Stops.{StopsAs, StopsBy}
@@ -83,3 +83,68 @@ pub IsStockOf-read : (told : Files) (name bytes : List ℕ) (table : StockTable)
 IsStockOf-read None name bytes table f g = tt
 IsStockOf-read (Some files) name bytes table f (inl e) = cc e
 IsStockOf-read (Some files) name bytes table f (inr e) = record { bytes = bytes; there = f.same; short = f.short; reads = sym e }
+
+-- a line file that was read answers as the stock file behind it does
+LineFile-stock : (line_file stock_file : Option (List ℕ)) (table : LineTable) (next : LineTable → StockTable → Status → List ℕ → Type 0) (s : Status) (t : List ℕ)
+    → IsLineOf line_file table → StockFile stock_file (next table) s t → LineFile line_file (λ l. StockFile stock_file (next l)) s t
+LineFile-stock line_file stock_file table next s t h answer =
+    WithFile-read 1 line_file h.bytes line_status line.reading_of table (λ l. StockFile stock_file (next l)) s t h.there h.short h.reads answer
+
+LineFile-both : (line_file stock_file : Option (List ℕ)) (table : LineTable) (train : StockTable) (next : LineTable → StockTable → Status → List ℕ → Type 0) (s : Status) (t : List ℕ)
+    → IsLineOf line_file table → IsStockOf stock_file train → next table train s t → LineFile line_file (λ l. StockFile stock_file (next l)) s t
+LineFile-both line_file stock_file table train next s t h k answer =
+    LineFile-stock line_file stock_file table next s t h
+    (WithFile-read 2 stock_file k.bytes stock_status stock.reading_of train (next table) s t k.there k.short k.reads answer)
+
+-- where the stock file behind a line file is not loaded, the form stops before anything was written
+pub StopsAs-behind : (told mid : Files) (line_name stock_name : List ℕ) (table : LineTable) (next : LineTable → StockTable → Status → List ℕ → Type 0) (before now : ℕ) (old : Option (List ℕ)) (status : Status)
+    (stopped : Result (Unit {0}) Status) → IfSome told (λ files. IsLineOf (files line_name) table) → mid ≡ told → LoadStops mid before now stock_name (λ file. StockFile file Never) status
+    → stopped ≡ Err status → IfSome told (λ files. StopsAs (LineFile (files line_name) (λ l. StockFile (files stock_name) (next l))) old old stopped)
+StopsAs-behind told mid line_name stock_name table next before now old status stopped h m stop e =
+    rw e (StopsAs-load told stock_name (λ file. StockFile file Never) (λ files. LineFile (files line_name) (λ l. StockFile (files stock_name) (next l))) before now old status (rw m at stop) more)
+  where
+    more : (files : List ℕ → Option (List ℕ)) (s : Status) (t : List ℕ) → told ≡ Some files → StockFile (files stock_name) Never s t
+        → LineFile (files line_name) (λ l. StockFile (files stock_name) (next l)) s t
+    more files s t is refused =
+        LineFile-stock (files line_name) (files stock_name) table next s t (rw is at h) (WithFile-never 2 (files stock_name) stock_status stock.reading_of (next table) s t refused)
+
+-- and a fault of reading has its cause
+pub StopsBy-behind : (told mid : Files) (first second : List ℕ) (refuses : Option (List ℕ) → Status → List ℕ → Type 0) (before between now sink : ℕ) (status : Status) (stopped : Result (Unit {0}) Status)
+    → mid ≡ told → before ≤ between → LoadStops mid between now second refuses status → stopped ≡ Err status → StopsBy ⊥ (first ∷ second ∷ []) told before now sink sink stopped
+StopsBy-behind told mid first second refuses before between now sink status stopped m later stop e =
+    rw e (record { later = omega arith; cause = at status (rw m at stop) })
+  where
+    at : (t : Status) → LoadStops told between now second refuses t → CausedBy ⊥ (first ∷ second ∷ []) told before now sink sink t
+    at Memory h = tt
+    at ReadFault (inl rose) = inl (omega (arith, later, rose))
+    at ReadFault (inr absent) = inr (1, second, omega arith, refl, absent)
+    at (TooLong file) h = tt
+    at (Refused file place rule) h = tt
+    at Done h = absurd h
+    at Usage h = absurd h
+    at WriteFault h = absurd h
+
+-- a fault of the sink behind a line file and a stock file that were read
+pub StopsAs-both : (told mid : Files) (line_name stock_name : List ℕ) (table : LineTable) (train : StockTable) (next : LineTable → StockTable → Status → List ℕ → Type 0) (text : List ℕ) (old new : Option (List ℕ))
+    (stopped : Result (Unit {0}) Status) → IfSome told (λ files. IsLineOf (files line_name) table) → mid ≡ told → IfSome mid (λ files. IsStockOf (files stock_name) train) → next table train Done text
+    → AppendsFront old new text → stopped ≡ Err WriteFault → IfSome told (λ files. StopsAs (LineFile (files line_name) (λ l. StockFile (files stock_name) (next l))) old new stopped)
+StopsAs-both told mid line_name stock_name table train next text old new stopped h m k answer front e = by told h (rw m at k)
+  where
+    by : (f : Files) → IfSome f (λ files. IsLineOf (files line_name) table) → IfSome f (λ files. IsStockOf (files stock_name) train)
+        → IfSome f (λ files. StopsAs (LineFile (files line_name) (λ l. StockFile (files stock_name) (next l))) old new stopped)
+    by None h k = tt
+    by (Some files) h k =
+        StopsAs-short (LineFile (files line_name) (λ l. StockFile (files stock_name) (next l))) text old new stopped
+        (LineFile-both (files line_name) (files stock_name) table train next Done text h k answer) front e
+
+-- and a text that was written whole
+pub EndsWhole-both : (told mid : Files) (line_name stock_name : List ℕ) (table : LineTable) (train : StockTable) (next : LineTable → StockTable → Status → List ℕ → Type 0) (text : List ℕ) (old new : Option (List ℕ))
+    → IfSome told (λ files. IsLineOf (files line_name) table) → mid ≡ told → IfSome mid (λ files. IsStockOf (files stock_name) train) → next table train Done text → Appends old new text
+    → IfSome told (λ files. EndsWhole (LineFile (files line_name) (λ l. StockFile (files stock_name) (next l))) Done old new)
+EndsWhole-both told mid line_name stock_name table train next text old new h m k answer whole = by told h (rw m at k)
+  where
+    by : (f : Files) → IfSome f (λ files. IsLineOf (files line_name) table) → IfSome f (λ files. IsStockOf (files stock_name) train)
+        → IfSome f (λ files. EndsWhole (LineFile (files line_name) (λ l. StockFile (files stock_name) (next l))) Done old new)
+    by None h k = tt
+    by (Some files) h k =
+        record { text = text; answer = LineFile-both (files line_name) (files stock_name) table train next Done text h k answer; written = whole }
