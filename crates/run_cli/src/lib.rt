@@ -55,7 +55,7 @@ fn run_words<S: Shelf, K: Sink, L: Ledger>(
     out: &mut K,
     steps: &mut Steps<L>,
 ) -> Result<(), Status>
-    ensures ends { IfSome (S.files shelf.old) (λ files. StopsAs (Answers (map string_bytes words.now) files) (K.written out.old) (K.written out.new) result) }
+    ensures ends { IfSome (S.files shelf.old) (λ files. StopsAs (Answers (map string_bytes words.now) files) (S.faults shelf.old) (S.faults shelf.new) (K.written out.old) (K.written out.new) result) }
     ensures causes { StopsBy (form_of (map string_bytes words.now) ≡ None) (named_files (map string_bytes words.now)) (S.files shelf.old) (S.faults shelf.old) (S.faults shelf.new) (K.faults out.old) (K.faults out.new) result }
     ensures steps { steps.new ≤ steps.old + most_steps (form_of (map string_bytes words.now)) }
 {
@@ -75,7 +75,7 @@ fn run_form<S: Shelf, K: Sink, L: Ledger>(
     steps: &mut Steps<L>,
 ) -> Result<(), Status>
     requires { IsForm (length words.now) form }
-    ensures ends { IfSome (S.files shelf.old) (λ files. StopsAs (AnswersBy (Some form) (map string_bytes words.now) files) (K.written out.old) (K.written out.new) result) }
+    ensures ends { IfSome (S.files shelf.old) (λ files. StopsAs (AnswersBy (Some form) (map string_bytes words.now) files) (S.faults shelf.old) (S.faults shelf.new) (K.written out.old) (K.written out.new) result) }
     ensures causes { StopsBy ⊥ (files_by (Some form) (map string_bytes words.now)) (S.files shelf.old) (S.faults shelf.old) (S.faults shelf.new) (K.faults out.old) (K.faults out.new) result }
     ensures steps { steps.new ≤ steps.old + most_steps (Some form) }
 {

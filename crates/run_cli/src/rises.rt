@@ -37,7 +37,7 @@ pub(crate) fn run_rise<S: Shelf, K: Sink, L: Ledger>(
     steps: &mut Steps<L>,
 ) -> Result<(), Status>
     requires { kmh ≤ 500 }
-    ensures ends { IfSome (S.files shelf.old) (λ files. StopsAs (LineFile (files line.now) (λ l. StockFile (files stock.now) (λ s. Is Status.Done (rise_text l s kmh)))) (K.written out.old) (K.written out.new) result) }
+    ensures ends { IfSome (S.files shelf.old) (λ files. StopsAs (LineFile (files line.now) (λ l. StockFile (files stock.now) (λ s. Is Status.Done (rise_text l s kmh)))) (S.faults shelf.old) (S.faults shelf.new) (K.written out.old) (K.written out.new) result) }
     ensures causes { StopsBy ⊥ (line.now ∷ stock.now ∷ []) (S.files shelf.old) (S.faults shelf.old) (S.faults shelf.new) (K.faults out.old) (K.faults out.new) result }
     ensures steps { steps.new ≤ steps.old + 1000000 }
 {
