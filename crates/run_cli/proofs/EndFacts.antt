@@ -1,19 +1,18 @@
 -- How a run ends, by where its form stopped.
-use Rattle.std.proofs.Common.{◌≡◌, ◌≤◌, ◌<◌, ◌⊎◌, ℕ, List, [], ◌∷◌, ◌++◌, length, take, map, get_or, zero, suc, Option, Some, None, Result, Ok, Err, IfSome, IfErr, refl, sym, ap, subst, inl, inr, arith}
+use Rattle.std.proofs.Common.{◌≡◌, ◌≤◌, ◌<◌, ◌⊎◌, ℕ, List, [], ◌∷◌, length, take, map, get_or, zero, suc, Option, Some, None, Result, Ok, Err, IfSome, IfErr, refl, sym, ap, subst, inl, inr, arith}
 use Rattle.std.proofs.lemmas.List.{append-nil}
 use Rattle.std.proofs.lemmas.Grind.{common_steps}
 use Rattle.std.specs.Io.KnownBytes.{Appends}
 use Rattle.run_io.specs.Causes.{Rose}
 use Rattle.run_io.specs.Fetches.{Files}
 use Rattle.run_io.specs.Writes.{AppendsFront}
-use Rattle.run_io.proofs.Written.{Appends-trans, AppendsFront-none}
+use Rattle.run_io.proofs.Written.{Appends-trans}
 use Rattle.run_cli.specs.Ends.{CausedBy, EndsAs, EndsShort, EndsWhole, IsQuiet}
 use Rattle.run_cli.specs.Finishes.{FinishesAs}
 use Rattle.run_cli.specs.Statuses.{status_text}
-use Rattle.run_cli.specs.Stops.{StopsAs, StopsAt, StopsBefore, StopsBy}
-use Rattle.run_cli.specs.Words.{IsForm, files_by, form_of, named_files, word}
+use Rattle.run_cli.specs.Stops.{StopsAs, StopsBefore, StopsBy}
+use Rattle.run_cli.specs.Words.{files_by, form_of, named_files, word}
 use Rattle.run_cli.specs.declared.words.Form.{Form}
-use Rattle.run_cli.specs.declared.words.Form.TheVariants.{Caps, Bands}
 use Rattle.run_cli.specs.declared.status.Status.{Status}
 use Rattle.run_cli.specs.declared.status.Status.TheVariants.{Done, Memory, Usage, ReadFault, WriteFault, Refused, TooLong}
 

@@ -1,8 +1,7 @@
 -- Files that are loaded, and why others are not.
-use Rattle.std.proofs.Common.{◌≡◌, ◌≤◌, ◌<◌, ◌⊎◌, ℕ, List, [], ◌∷◌, length, Option, Some, None, Result, Ok, Err, IfSome, refl, sym, subst, inl, inr, arith}
+use Rattle.std.proofs.Common.{◌≡◌, ◌≤◌, ℕ, List, [], ◌∷◌, length, Option, Some, None, Result, Ok, Err, IfSome, refl, sym, subst, inl, inr, arith}
 use Rattle.std.specs.Io.KnownBytes.{Appends}
-use Rattle.run_io.specs.Causes.{Rose}
-use Rattle.run_io.specs.Fetches.{Files, IsAbsent}
+use Rattle.run_io.specs.Fetches.{Files}
 use Rattle.run_io.specs.Writes.{AppendsFront}
 use Rattle.run_io.proofs.Written.{Appends-nil}
 use Rattle.unit_rules.specs.Memory.{Gives}
@@ -12,7 +11,7 @@ use Rattle.stock_tables.specs.StockFile as stock
 use Rattle.stock_tables.specs.Stock.{StockTable}
 use Rattle.stock_tables.specs.declared.StockFault.TheVariants as stock_fault
 use Rattle.run_cli.specs.Answers.{LineFile, StockFile, WithFile, WithTable}
-use Rattle.run_cli.specs.Ends.{CausedBy, EndsShort, EndsWhole}
+use Rattle.run_cli.specs.Ends.{CausedBy, EndsWhole}
 use Rattle.run_cli.specs.Files.{Fetched, IsLineOf, IsStockOf, LoadStops, Never, most_bytes}
 use Rattle.run_cli.specs.Statuses.{line_status, status_text, stock_status}
 use Rattle.run_cli.specs.Stops.{StopsAs, StopsBy}

@@ -2,10 +2,8 @@
 use Rattle.std.specs.Prelude.{ℕ, ◌≡◌, ◌≤◌, ◌<◌, ◌⊎◌, List, length, Option, Some, None, Result, Ok, Err}
 use Rattle.line_tables.specs.LineFile as line
 use Rattle.line_tables.specs.Table.{LineTable}
-use Rattle.line_tables.specs.declared.LineFault.{LineFault}
 use Rattle.stock_tables.specs.StockFile as stock
 use Rattle.stock_tables.specs.Stock.{StockTable}
-use Rattle.stock_tables.specs.declared.StockFault.{StockFault}
 use Rattle.report_text.specs.Texts.{bands_text}
 use Rattle.run_cli.specs.Files.{most_bytes}
 use Rattle.run_cli.specs.Statuses.{line_status, status_text, stock_status}

@@ -1,4 +1,4 @@
-use Rattle.std.proofs.Common.{◌∙◌, ◌∷◌, [], List, ℕ, map, string_bytes, ap, arith, subst, sym}
+use Rattle.std.proofs.Common.{◌∙◌, ◌∷◌, [], List, ℕ, map, string_bytes, ap, arith, subst}
 use Rattle.run_cli.specs.Answers.{Is}
 use Rattle.run_cli.specs.Stops.{StopsBy}
 use Rattle.run_cli.specs.Texts.{rise_text}

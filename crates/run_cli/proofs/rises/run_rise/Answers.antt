@@ -50,7 +50,7 @@ rule_of-rule-requires-clause-most g c =
 pub returns-in_err-write_rise-clause-ends : goal.returns-in_err-write_rise-clause-ends
 returns-in_err-write_rise-clause-ends g c =
     let text = lines_below-rise_line c.in_ok-line.line c.in_ok-stock.stock c.args.kmh c.rule_of-rule.result c.in_ok-pulls.pulls.items c.as_slice-2.result.now c.min-before.result
-        (search rules) c.rule_of-rule.ensures (search rules) (search rules) in
+    (search rules) c.rule_of-rule.ensures (search rules) (search rules) in
     StopsAs-both (g.S.Shelf.files c.args.shelf.now) (g.S.Shelf.files c.load_line.new.shelf) c.args.line.now c.args.stock.now c.in_ok-line.line c.in_ok-stock.stock
     (λ l s. Is Done (rise_text l s c.args.kmh)) (rise_text c.in_ok-line.line c.in_ok-stock.stock c.args.kmh)
     (g.S.Shelf.faults c.args.shelf.now) (g.S.Shelf.faults c.load_stock.new.shelf) (g.K.Sink.written c.args.out.now) (g.K.Sink.written c.write_rise.new.out)
@@ -60,7 +60,7 @@ returns-in_err-write_rise-clause-ends g c =
 pub returns-clause-ends : goal.returns-clause-ends
 returns-clause-ends g c =
     let text = lines_below-rise_line c.in_ok-line.line c.in_ok-stock.stock c.args.kmh c.rule_of-rule.result c.in_ok-pulls.pulls.items c.as_slice-2.result.now c.min-before.result
-        (search rules) c.rule_of-rule.ensures (search rules) (search rules) in
+    (search rules) c.rule_of-rule.ensures (search rules) (search rules) in
     EndsWhole-both (g.S.Shelf.files c.args.shelf.now) (g.S.Shelf.files c.load_line.new.shelf) c.args.line.now c.args.stock.now c.in_ok-line.line c.in_ok-stock.stock
     (λ l s. Is Done (rise_text l s c.args.kmh)) (rise_text c.in_ok-line.line c.in_ok-stock.stock c.args.kmh) (g.K.Sink.written c.args.out.now) (g.K.Sink.written c.write_rise.new.out)
     c.in_ok-line.ensures.line c.load_line.ensures.files c.in_ok-stock.ensures.stock (record { status_is = refl; text_is = refl }) (rw text at c.in_ok-write_rise.ensures.ok)
