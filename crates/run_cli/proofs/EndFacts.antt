@@ -16,12 +16,6 @@ use Rattle.run_cli.specs.declared.words.Form.{Form}
 use Rattle.run_cli.specs.declared.status.Status.{Status}
 use Rattle.run_cli.specs.declared.status.Status.TheVariants.{Done, Memory, Usage, ReadFault, WriteFault, Refused, TooLong}
 
-Rose-after : (before mid now : ℕ) → before ≤ mid → Rose mid now → Rose before now
-Rose-after before mid now h r = omega (arith, h, r)
-
-Rose-before : (before mid now : ℕ) → Rose before mid → mid ≤ now → Rose before now
-Rose-before before mid now r h = omega (arith, h, r)
-
 -- the text of a status, or a front of it, behind nothing
 EndsAs-text : (answers : Status → List ℕ → Type 0) (status : Status) (a b c : Option (List ℕ)) (before now : ℕ) (result : Status)
     → StopsBefore answers status a b → (EndsWhole answers status a c → EndsAs answers a c status)
