@@ -2,19 +2,17 @@
 use Rattle.std.specs.Prelude.{ℕ, ◌≡◌, ◌≤◌, ◌<◌, ◌⊎◌, List, length, Option, Some, None, Result, Ok, Err}
 use Rattle.line_tables.specs.LineFile as line
 use Rattle.line_tables.specs.Table.{LineTable}
-use Rattle.line_tables.specs.declared.LineFault.{LineFault}
 use Rattle.stock_tables.specs.StockFile as stock
 use Rattle.stock_tables.specs.Stock.{StockTable}
-use Rattle.stock_tables.specs.declared.StockFault.{StockFault}
 use Rattle.report_text.specs.Texts.{bands_text}
 use Rattle.run_cli.specs.Files.{most_bytes}
 use Rattle.run_cli.specs.Statuses.{line_status, status_text, stock_status}
-use Rattle.run_cli.specs.Texts.{caps_text}
+use Rattle.run_cli.specs.Texts.{caps_text, rise_text}
 use Rattle.run_cli.specs.Words.{form_of, word}
 use Rattle.run_cli.specs.declared.status.Status.{Status}
 use Rattle.run_cli.specs.declared.status.Status.TheVariants.{Done, Usage, ReadFault, TooLong}
 use Rattle.run_cli.specs.declared.words.Form.{Form}
-use Rattle.run_cli.specs.declared.words.Form.TheVariants.{Caps, Bands}
+use Rattle.run_cli.specs.declared.words.Form.TheVariants.{Caps, Bands, Rise}
 
 -- which statuses with which texts answer
 abbrev pub Answer : Type 1
@@ -50,6 +48,8 @@ StockFile file next s t = WithFile 2 file (λ bytes. WithTable stock_status (sto
 abbrev pub AnswersBy : Option Form → List (List ℕ) → (List ℕ → Option (List ℕ)) → Status → List ℕ → Type 0
 AnswersBy None words files s t = Refuses Usage s t
 AnswersBy (Some (Caps train top)) words files s t = LineFile (files (word words 1)) (λ line. Is Done (caps_text line train top)) s t
+AnswersBy (Some (Rise kmh)) words files s t =
+    LineFile (files (word words 1)) (λ line. StockFile (files (word words 2)) (λ stock. Is Done (rise_text line stock kmh))) s t
 AnswersBy (Some Bands) words files s t = StockFile (files (word words 1)) (λ stock. Is Done (bands_text stock)) s t
 
 -- what answers these words over these files

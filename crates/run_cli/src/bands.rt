@@ -18,7 +18,7 @@ pub(crate) fn run_stock<S: Shelf, K: Sink>(
     out: &mut K,
     name: &str,
 ) -> Result<(), Status>
-    ensures ends { IfSome (S.files shelf.old) (λ files. StopsAs (StockFile (files name.now) (λ stock. Is Status.Done (bands_text stock))) (K.written out.old) (K.written out.new) result) }
+    ensures ends { IfSome (S.files shelf.old) (λ files. StopsAs (StockFile (files name.now) (λ stock. Is Status.Done (bands_text stock))) (S.faults shelf.old) (S.faults shelf.new) (K.written out.old) (K.written out.new) result) }
     ensures causes { StopsBy ⊥ (name.now ∷ []) (S.files shelf.old) (S.faults shelf.old) (S.faults shelf.new) (K.faults out.old) (K.faults out.new) result }
 {
     let stock = load_stock(alloc, shelf, name)?;

@@ -28,7 +28,7 @@ pub(crate) fn run_caps<S: Shelf, K: Sink>(
     requires train_most { train ≤ 5000 }
     requires top_least { 1 ≤ top }
     requires top_most { top ≤ 500 }
-    ensures ends { IfSome (S.files shelf.old) (λ files. StopsAs (LineFile (files name.now) (λ line. Is Status.Done (caps_text line train top))) (K.written out.old) (K.written out.new) result) }
+    ensures ends { IfSome (S.files shelf.old) (λ files. StopsAs (LineFile (files name.now) (λ line. Is Status.Done (caps_text line train top))) (S.faults shelf.old) (S.faults shelf.new) (K.written out.old) (K.written out.new) result) }
     ensures causes { StopsBy ⊥ (name.now ∷ []) (S.files shelf.old) (S.faults shelf.old) (S.faults shelf.new) (K.faults out.old) (K.faults out.new) result }
 {
     let line = load_line(alloc, shelf, name)?;

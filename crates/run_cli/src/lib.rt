@@ -2,21 +2,23 @@
 //! output, and says how it ended.
 #![tactic(auto)]
 
-ghost use Rattle.std.specs.Prelude.{◌≡◌, ◌≤◌, ◌⊎◌, None, Some, map, length, string_bytes, IfSome};
+ghost use Rattle.std.specs.Prelude.{◌≡◌, ◌≤◌, ◌+◌, ◌⊎◌, None, Some, map, length, string_bytes, IfSome};
 ghost use Rattle.run_cli.specs.Answers.{Answers, AnswersBy};
 ghost use Rattle.run_cli.specs.Ends.{EndsAs, EndsWhole, HasCauses, IsQuiet};
 ghost use Rattle.run_cli.specs.Finishes.{FinishesAs};
 ghost use Rattle.run_cli.specs.Stops.{StopsAs, StopsBy};
-ghost use Rattle.run_cli.specs.Words.{IsForm, files_by, form_of, named_files};
+ghost use Rattle.run_cli.specs.Words.{IsForm, files_by, form_of, most_steps, named_files};
 
 mod bands;
 mod caps;
 mod files;
+mod rises;
 mod status;
 mod words;
 
 use crate::bands::run_stock;
 use crate::caps::run_caps;
+use crate::rises::run_rise;
 use crate::words::{Form, read_form};
 pub use files::MOST_BYTES;
 use run_io::{Failed, Page, Shelf, Sink, Source};
@@ -39,43 +41,51 @@ pub fn run<S: Shelf, I: Source, K: Sink, L: Ledger>(
     ensures causes { HasCauses (map string_bytes words.now) (S.files shelf.old) (S.faults shelf.old) (S.faults shelf.new) (K.faults out.old) (K.faults out.new) result }
     ensures complete { IsQuiet (S.faults shelf.old) (S.faults shelf.new) → IsQuiet (K.faults out.old) (K.faults out.new)
         → IfSome (S.files shelf.old) (λ files. (result ≡ Status.Memory) ⊎ EndsWhole (Answers (map string_bytes words.now) files) result (K.written out.old) (K.written out.new)) }
-    ensures steps { steps.new ≡ steps.old }
+    ensures steps { steps.new ≤ steps.old + most_steps (form_of (map string_bytes words.now)) }
 {
-    let stopped = run_words(words, alloc, shelf, out);
+    let stopped = run_words(words, alloc, shelf, out, steps);
     finish(out, stopped)
 }
 
 // Runs the words, and stops with the status of what is in their way.
-fn run_words<S: Shelf, K: Sink>(
+fn run_words<S: Shelf, K: Sink, L: Ledger>(
     words: &[String],
     alloc: Global,
     shelf: &mut S,
     out: &mut K,
+    steps: &mut Steps<L>,
 ) -> Result<(), Status>
-    ensures ends { IfSome (S.files shelf.old) (λ files. StopsAs (Answers (map string_bytes words.now) files) (K.written out.old) (K.written out.new) result) }
+    ensures ends { IfSome (S.files shelf.old) (λ files. StopsAs (Answers (map string_bytes words.now) files) (S.faults shelf.old) (S.faults shelf.new) (K.written out.old) (K.written out.new) result) }
     ensures causes { StopsBy (form_of (map string_bytes words.now) ≡ None) (named_files (map string_bytes words.now)) (S.files shelf.old) (S.faults shelf.old) (S.faults shelf.new) (K.faults out.old) (K.faults out.new) result }
+    ensures steps { steps.new ≤ steps.old + most_steps (form_of (map string_bytes words.now)) }
 {
     match read_form(words) {
         None => Err(Status::Usage),
-        Some(form) => run_form(form, words, alloc, shelf, out),
+        Some(form) => run_form(form, words, alloc, shelf, out, steps),
     }
 }
 
 // Runs a form over the files that the words name.
-fn run_form<S: Shelf, K: Sink>(
+fn run_form<S: Shelf, K: Sink, L: Ledger>(
     form: Form,
     words: &[String],
     alloc: Global,
     shelf: &mut S,
     out: &mut K,
+    steps: &mut Steps<L>,
 ) -> Result<(), Status>
     requires { IsForm (length words.now) form }
-    ensures ends { IfSome (S.files shelf.old) (λ files. StopsAs (AnswersBy (Some form) (map string_bytes words.now) files) (K.written out.old) (K.written out.new) result) }
+    ensures ends { IfSome (S.files shelf.old) (λ files. StopsAs (AnswersBy (Some form) (map string_bytes words.now) files) (S.faults shelf.old) (S.faults shelf.new) (K.written out.old) (K.written out.new) result) }
     ensures causes { StopsBy ⊥ (files_by (Some form) (map string_bytes words.now)) (S.files shelf.old) (S.faults shelf.old) (S.faults shelf.new) (K.faults out.old) (K.faults out.new) result }
+    ensures steps { steps.new ≤ steps.old + most_steps (Some form) }
 {
     match form {
         Form::Caps { train, top } => { run_caps(alloc, shelf, out, words[1].as_str(), train, top) }
         Form::Bands => run_stock(alloc, shelf, out, words[1].as_str()),
+        Form::Rise { kmh } => {
+            let (line, stock) = (words[1].as_str(), words[2].as_str());
+            run_rise(alloc, shelf, out, line, stock, kmh, steps)
+        }
     }
 }
 

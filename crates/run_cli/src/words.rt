@@ -1,7 +1,7 @@
 //! The words of a command line, and the forms that they may have.
 
 ghost use Rattle.std.specs.Prelude.{◌≡◌, ◌≤◌, ◌<◌, IfSome, IsTrue, map, length, string_bytes};
-ghost use Rattle.run_cli.specs.Words.{IsForm, asks, caps_of, form_of, is_name};
+ghost use Rattle.run_cli.specs.Words.{IsForm, asks, caps_of, form_of, is_name, rise_at};
 ghost use Rattle.unit_rules.specs.Numeral.{number_in};
 
 use unit_rules::number_in;
@@ -13,6 +13,8 @@ pub(crate) enum Form {
     Caps { train: u32, top: u32 },
     // The tables of a train.
     Bands,
+    // The step rule of a train on a line, at each cell from that speed in km/h.
+    Rise { kmh: u32 },
 }
 
 // The form of the words, if they are one.
@@ -24,6 +26,11 @@ pub(crate) fn read_form(words: &[String]) -> Option<Form>
         read_caps(words[2].as_bytes(), words[3].as_bytes())
     } else if asks(words, "stock", 2) && is_name(words[1].as_bytes()) {
         Some(Form::Bands)
+    } else if asks(words, "rise", 4)
+        && is_name(words[1].as_bytes())
+        && is_name(words[2].as_bytes())
+    {
+        read_rise(words[3].as_bytes())
     } else {
         None
     }
@@ -37,6 +44,16 @@ fn read_caps(train: &[u8], top: &[u8]) -> Option<Form>
     let train = number_in(1, 5000, train)?;
     let top = number_in(1, 500, top)?;
     Some(Form::Caps { train, top })
+}
+
+// The form `rise` by the word for the speed.
+fn read_rise(kmh: &[u8]) -> Option<Form>
+    ensures form { result ≡ rise_at (number_in 0 500 kmh.now) }
+    ensures in_range { IfSome result (IsForm 4) }
+{
+    Some(Form::Rise {
+        kmh: number_in(0, 500, kmh)?,
+    })
 }
 
 // Whether the words are a command of that name, with that many words.

@@ -1,6 +1,5 @@
 use Rattle.std.proofs.Common.{map, refl, string_bytes, sym}
 use Rattle.run_cli.proofs.EndFacts.{StopsBy-form}
-use Rattle.run_cli.specs.Words.{files_by}
 use Rattle.run_cli.proofs.run_words.Goals as goal
 
 pub returns-in-Some-clause-causes : goal.returns-in-Some-clause-causes

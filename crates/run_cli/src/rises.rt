@@ -1,0 +1,123 @@
+//! The form `rise`: what the step rule makes of a speed at each cell of a line.
+
+ghost use Rattle.std.specs.Prelude.{◌≡◌, ◌≤◌, ◌<◌, ◌+◌, ◌*◌, ◌++◌, ◌∷◌, [], min, vec_len, length, All, OnOk, OnErr, IfOk, IfSome};
+ghost use Rattle.std.specs.Io.KnownBytes.{Appends};
+ghost use Rattle.run_io.specs.Causes.{HasCause};
+ghost use Rattle.run_io.specs.Pages.{Carries};
+ghost use Rattle.run_io.specs.Texts.{lines_below};
+ghost use Rattle.run_io.specs.Writes.{AppendsFront};
+ghost use Rattle.run_rules.specs.Speeds.{squared};
+ghost use Rattle.run_rules.specs.Steps.{IsPull};
+ghost use Rattle.step_rule.specs.Motion.{cells_of, most_of, step_rule_of};
+ghost use Rattle.run_cli.specs.Answers.{Is, LineFile, StockFile};
+ghost use Rattle.run_cli.specs.Stops.{StopsAs, StopsBy};
+ghost use Rattle.run_cli.specs.Texts.{rise_line, rise_text};
+
+use crate::Status;
+use crate::files::{load_line, load_stock};
+use report_text::put_numbers;
+use run_io::{Failed, Page, Shelf, Sink};
+use run_rules::squared;
+use std::alloc::Global;
+use std::sync::ledger::Ledger;
+use step_rule::Rule;
+use stock_tables::Stock;
+use train_mean::pulls;
+use unit_rules::{Memory, Steps};
+
+// Writes what the step rule of the stock on the line makes of a speed of `kmh` km/h, or of the top
+// speed where that is less.
+pub(crate) fn run_rise<S: Shelf, K: Sink, L: Ledger>(
+    alloc: Global,
+    shelf: &mut S,
+    out: &mut K,
+    line: &str,
+    stock: &str,
+    kmh: u32,
+    steps: &mut Steps<L>,
+) -> Result<(), Status>
+    requires { kmh ≤ 500 }
+    ensures ends { IfSome (S.files shelf.old) (λ files. StopsAs (LineFile (files line.now) (λ l. StockFile (files stock.now) (λ s. Is Status.Done (rise_text l s kmh)))) (S.faults shelf.old) (S.faults shelf.new) (K.written out.old) (K.written out.new) result) }
+    ensures causes { StopsBy ⊥ (line.now ∷ stock.now ∷ []) (S.files shelf.old) (S.faults shelf.old) (S.faults shelf.new) (K.faults out.old) (K.faults out.new) result }
+    ensures steps { steps.new ≤ steps.old + 1000000 }
+{
+    let line = load_line(alloc, shelf, line)?;
+    let stock = load_stock(alloc, shelf, stock)?;
+    let before = squared(stock.top()).min(squared(kmh));
+    let pulls = pulls(alloc, &line, stock.mass(), stock.length())?;
+    let shown = copied(alloc, pulls.as_slice())?;
+    let rule = rule_of(stock, pulls);
+    write_rise(out, &rule, shown.as_slice(), before, steps)?;
+    Ok(())
+}
+
+// A copy of the pulls, to be shown beside the rule that takes them.
+fn copied(alloc: Global, pulls: &[i64]) -> Result<Vec<i64>, Memory>
+    ensures { IfOk result (λ copy. copy.items ≡ pulls.now) }
+{
+    match Vec::from_slice(alloc, pulls) {
+        Ok(copy) => Ok(copy),
+        Err(_) => Err(Memory),
+    }
+}
+
+// The step rule of a stock under these pulls.
+fn rule_of(stock: Stock, pulls: Vec<i64>) -> Rule
+    requires least { 2 ≤ vec_len pulls }
+    requires most { vec_len pulls ≤ 500000 }
+    requires small { All IsPull pulls.items }
+    ensures { result ≡ record { push = stock.push; brake = stock.brake; moved = stock.moved_mass; pulls = pulls.items } }
+{
+    let moved = stock.moved_mass();
+    let (push, brake) = stock.into_bands();
+    Rule::new(push, brake, moved, pulls)
+}
+
+// Writes a line for each cell.
+fn write_rise<K: Sink, L: Ledger>(
+    out: &mut K,
+    rule: &Rule,
+    pulls: &[i64],
+    before: u32,
+    steps: &mut Steps<L>,
+) -> Result<(), Failed>
+    requires pulls { pulls.now ≡ rule.now.pulls }
+    requires in_range { before ≤ most_of rule.now }
+    ensures ok { OnOk result (Appends (K.written out.old) (K.written out.new) (lines_below (rise_line (step_rule_of rule.now) pulls.now before) (cells_of rule.now))) }
+    ensures failed { OnErr result (AppendsFront (K.written out.old) (K.written out.new) (lines_below (rise_line (step_rule_of rule.now) pulls.now before) (cells_of rule.now))) }
+    ensures cause { HasCause (K.faults out.old) (K.faults out.new) result }
+    ensures steps { steps.new ≤ steps.old + 2 * cells_of rule.now }
+{
+    let mut page = Page::new();
+    for cell in 0..rule.cells() {
+        put_rise(&mut page, out, rule, pulls, before, cell, steps)?;
+    }
+    page.flush(out)
+}
+
+// Puts the line of a cell.
+fn put_rise<K: Sink, L: Ledger>(
+    page: &mut Page,
+    out: &mut K,
+    rule: &Rule,
+    pulls: &[i64],
+    before: u32,
+    cell: u32,
+    steps: &mut Steps<L>,
+) -> Result<(), Failed>
+    requires pulls { pulls.now ≡ rule.now.pulls }
+    requires in_range { before ≤ most_of rule.now }
+    requires cell { cell < cells_of rule.now }
+    ensures ok { OnOk result (Carries (K.written out.old) page.old (K.written out.new) page.new (rise_line (step_rule_of rule.now) pulls.now before cell)) }
+    ensures failed { OnErr result (AppendsFront (K.written out.old) (K.written out.new) (page.old ++ rise_line (step_rule_of rule.now) pulls.now before cell)) }
+    ensures cause { HasCause (K.faults out.old) (K.faults out.new) result }
+    ensures steps { steps.new ≡ steps.old + 2 }
+{
+    let numbers = [
+        cell as i64,
+        pulls[cell as usize],
+        rule.up(cell, before, steps),
+        rule.low(cell, before, steps),
+    ];
+    put_numbers(page, out, &numbers)
+}
