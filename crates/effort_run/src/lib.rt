@@ -1,5 +1,5 @@
-//! The walk on over a line: the greatest squared speeds at full effort under caps that brake, to the
-//! end of the line or to where no train gets.
+//! The walk on over a line: the greatest squared speeds at full effort under a braking list, to the
+//! end of the line or to the first point that no train gets to.
 #![tactic(auto)]
 
 ghost use Rattle.std.specs.Prelude.{◌≡◌, ◌≢◌, ℕ, ◌+◌, ◌<◌, ◌≤◌, pos, ◌≤ℤ◌, ◌↔◌, List, length, slice_index, IfNone, IfSome, IsTrue, Some};
@@ -22,13 +22,13 @@ pub struct Walk {
     pub last: u32,
 }
 
-/// Makes `e` the envelope under `c`: the greatest squared speeds by point, up to the end of the line
-/// or its stall. `c`, taken as caps, is its own braking list, and no number of it is past the
-/// train's top speed.
+/// Makes `e` the envelope under `c`: the greatest squared speeds by point, in (0.01 km/h)², up to the
+/// end of the line or its stall. `c`, taken as caps, is its own braking list, and no number of it is
+/// past the train's top speed. Both have a number for each point.
 ///
 /// A first walk has `known` 0 and the whole line as `from..=to`. In a repeated one the first `known`
 /// numbers of `e` are the envelope of an older list, which agrees with `c` outside `from..=to`; the
-/// walk then ends at the first number past `to` that is as before.
+/// walk then ends at the first number past `to` that is as before. Numbers past a stall mean nothing.
 pub fn walk_on<L: Ledger>(
     rule: &Rule,
     c: &[u32],
@@ -49,7 +49,7 @@ pub fn walk_on<L: Ledger>(
         → IsOlderEnvelope (step_rule_of rule.now) (most_of rule.now) c.now e.old from to known }
     ensures reach { ReachesAs (step_rule_of rule.now) c.now e.new result.reach }
     ensures only { IsOnlyReach (step_rule_of rule.now) c.now result.reach }
-    // it is the envelope under the caps too that `c` is the braking list of
+    // so it is under the caps too that `c` is the braking list of
     ensures under_caps { (x : List ℕ) → IsBrakingList (step_rule_of rule.now) x c.now
         → ReachesAs (step_rule_of rule.now) x e.new result.reach }
     ensures last_least { to ≤ result.last }
@@ -86,7 +86,7 @@ struct Drive {
     last: u32,
 }
 
-// Drives on from the cell before point `from`, until there is no next number or the older ones stand.
+// Drives on from the cell before point `from`, until no number follows or the older ones stand.
 fn drive_on<L: Ledger>(
     rule: &Rule,
     c: &[u32],
@@ -106,8 +106,10 @@ fn drive_on<L: Ledger>(
     ensures ends { EndsAt (step_rule_of rule.now) c.now e.new result.known }
     ensures last_least { to ≤ result.last }
     ensures last_most { result.last ≤ cells_of rule.now }
-    ensures same_before { (i : ℕ) → i < from → known_at e.new result.known i ≡ known_at e.old known i }
-    ensures same_past { (i : ℕ) → result.last < i → known_at e.new result.known i ≡ known_at e.old known i }
+    ensures same_before { (i : ℕ) → i < from
+        → known_at e.new result.known i ≡ known_at e.old known i }
+    ensures same_past { (i : ℕ) → result.last < i
+        → known_at e.new result.known i ≡ known_at e.old known i }
     ensures differs { (i : ℕ) → to < i → i ≤ result.last
         → known_at e.new result.known i ≢ known_at e.old known i }
     ensures cost { steps.new + from ≤ steps.old + result.last + 2 }

@@ -1,5 +1,5 @@
-//! What the definitions mean in numbers, for a toy train of 259200 kg on a level line of ten cells: full
-//! effort adds 20000 to the squared speed in each cell, and the brakes take 25920.
+//! What the definitions mean in numbers, for a toy train of 259200 kg on a level line of ten cells:
+//! full effort adds 20000 to the squared speed in each cell, and the brakes take 25920.
 
 ghost use Rattle.std.specs.Prelude.{◌≡◌, ◌+◌, ◌^◌, ◌<◌, ◌≤◌, ℕ, pos, ◌≤ℤ◌, length, replicate, slice_index, IfOk};
 ghost use Rattle.std.specs.Bool.{OnTrue};
@@ -42,7 +42,8 @@ fn toy(rt: &impl Abort, alloc: Global) -> Result<Rule, Fail>
 // Whether the brakes get from each cap to the next, and no cap is past the top speed.
 fn brakes(c: &[u32]) -> bool
     requires { length c.now ≡ 11 }
-    ensures braked { OnTrue result ((i : ℕ) → i + 1 < length c.now → slice_index c.now i ≤ slice_index c.now (i + 1) + 25920) }
+    ensures braked { OnTrue result ((i : ℕ) → i + 1 < length c.now
+        → slice_index c.now i ≤ slice_index c.now (i + 1) + 25920) }
     ensures in_range { OnTrue result ((i : ℕ) → i < length c.now → slice_index c.now i ≤ 36000000) }
 {
     for i in 0..10 {
