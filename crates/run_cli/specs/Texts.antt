@@ -10,6 +10,7 @@ use Rattle.run_rules.specs.Speeds.{squared}
 use Rattle.run_rules.specs.Steps.{rule_of}
 use Rattle.stock_tables.specs.Stock.{StockTable}
 use Rattle.train_mean.specs.Gradients.{pulls_of}
+use Rattle.unit_rules.specs.declared.Bound.{Bound}
 
 -- the caps of a line by its limits and a train's top speed alone, a line for each point
 abbrev pub caps_text : LineTable → ℕ → ℕ → List ℕ
@@ -22,6 +23,10 @@ train_pulls line stock = pulls_of line.slopes line.length stock.mass stock.lengt
 -- the step rule of a train on a line
 abbrev pub train_rule : LineTable → StockTable → StepRule
 train_rule line stock = rule_of stock.push.rows stock.brake.rows stock.moved_mass (train_pulls line stock)
+
+-- the caps of a train on a line, at both ends of which it stands
+abbrev pub train_caps : LineTable → StockTable → List ℕ
+train_caps line stock = caps_of line.length stock.length stock.top line.limits (record { at = 0; most = 0 } ∷ record { at = line.length; most = 0 } ∷ [])
 
 -- a cell, the pull there, and the greatest and the least squared speed after it from a squared speed before it
 abbrev pub rise_line : StepRule → List ℤ → ℕ → ℕ → List ℕ
