@@ -9,7 +9,7 @@ ghost use Rattle.run_cli.specs.Texts.{train_caps, train_rule};
 
 use crate::Status;
 use crate::files::{load_line, load_stock};
-use crate::motion::rule_on;
+use crate::motion::rule_of;
 use brake_caps::walk_back;
 use limit_profile::Limits;
 use line_tables::Line;
@@ -18,6 +18,7 @@ use run_io::{Shelf, Sink};
 use std::alloc::Global;
 use std::sync::ledger::Ledger;
 use stock_tables::Stock;
+use train_mean::pulls;
 use unit_rules::{Bound, Memory, Steps};
 
 // Writes the braking list of the stock on the line, where it stands at both ends.
@@ -52,7 +53,8 @@ fn braking_list<L: Ledger>(
 {
     let length = line.length();
     let limits = standing_limits(alloc, line, &stock)?;
-    let rule = rule_on(alloc, line, stock)?;
+    let pulls = pulls(alloc, line, stock.mass(), stock.length())?;
+    let rule = rule_of(stock, pulls);
     let Ok(mut list) = Vec::from_elem(alloc, 0, length as usize + 1) else {
         return Err(Memory);
     };
