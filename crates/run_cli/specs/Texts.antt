@@ -10,7 +10,6 @@ use Rattle.run_rules.specs.Speeds.{squared}
 use Rattle.run_rules.specs.Steps.{rule_of}
 use Rattle.stock_tables.specs.Stock.{StockTable}
 use Rattle.train_mean.specs.Gradients.{pulls_of}
-use Rattle.unit_rules.specs.declared.Bound.{Bound}
 
 -- the caps of a line by its limits and a train's top speed alone, a line for each point
 abbrev pub caps_text : LineTable → ℕ → ℕ → List ℕ

@@ -1,4 +1,4 @@
-use Rattle.std.proofs.Common.{arith, refl, rules, ◌∙◌, sym}
+use Rattle.std.proofs.Common.{arith, rules, ◌∙◌, sym}
 use Rattle.limit_profile.specs.Profile.{caps}
 use Rattle.run_cli.proofs.BrakeFacts.{IsBrakingList-train}
 use Rattle.run_cli.proofs.RiseFacts.{length-train_pulls}
