@@ -1,3 +1,4 @@
 pub mod EndFacts
 pub mod LoadFacts
 pub mod RiseFacts
+pub mod BrakeFacts

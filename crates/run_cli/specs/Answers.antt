@@ -4,15 +4,16 @@ use Rattle.line_tables.specs.LineFile as line
 use Rattle.line_tables.specs.Table.{LineTable}
 use Rattle.stock_tables.specs.StockFile as stock
 use Rattle.stock_tables.specs.Stock.{StockTable}
-use Rattle.report_text.specs.Texts.{bands_text}
+use Rattle.report_text.specs.Texts.{bands_text, list_text}
+use Rattle.run_rules.specs.Runs.{IsBrakingList}
 use Rattle.run_cli.specs.Files.{most_bytes}
 use Rattle.run_cli.specs.Statuses.{line_status, status_text, stock_status}
-use Rattle.run_cli.specs.Texts.{caps_text, rise_text}
+use Rattle.run_cli.specs.Texts.{caps_text, rise_text, train_caps, train_rule}
 use Rattle.run_cli.specs.Words.{form_of, word}
 use Rattle.run_cli.specs.declared.status.Status.{Status}
 use Rattle.run_cli.specs.declared.status.Status.TheVariants.{Done, Usage, ReadFault, TooLong}
 use Rattle.run_cli.specs.declared.words.Form.{Form}
-use Rattle.run_cli.specs.declared.words.Form.TheVariants.{Caps, Bands, Rise}
+use Rattle.run_cli.specs.declared.words.Form.TheVariants.{Caps, Bands, Rise, Brakes}
 
 -- which statuses with which texts answer
 abbrev pub Answer : Type 1
@@ -45,11 +46,19 @@ LineFile file next s t = WithFile 1 file (λ bytes. WithTable line_status (line.
 abbrev pub StockFile : Option (List ℕ) → (StockTable → Answer) → Status → List ℕ → Type 0
 StockFile file next s t = WithFile 2 file (λ bytes. WithTable stock_status (stock.reading_of bytes) next) s t
 
+-- the braking list of the train on the line, where it stands at both ends
+pub record IsBrakes (line : LineTable) (stock : StockTable) (s : Status) (t : List ℕ) : Type 0 where
+  pub status_is : s ≡ Done
+  pub list : List ℕ
+  pub is_list : IsBrakingList (train_rule line stock) (train_caps line stock) list
+  pub text_is : t ≡ list_text list
+
 abbrev pub AnswersBy : Option Form → List (List ℕ) → (List ℕ → Option (List ℕ)) → Status → List ℕ → Type 0
 AnswersBy None words files s t = Refuses Usage s t
 AnswersBy (Some (Caps train top)) words files s t = LineFile (files (word words 1)) (λ line. Is Done (caps_text line train top)) s t
 AnswersBy (Some (Rise kmh)) words files s t =
     LineFile (files (word words 1)) (λ line. StockFile (files (word words 2)) (λ stock. Is Done (rise_text line stock kmh))) s t
+AnswersBy (Some Brakes) words files s t = LineFile (files (word words 1)) (λ line. StockFile (files (word words 2)) (λ stock. IsBrakes line stock)) s t
 AnswersBy (Some Bands) words files s t = StockFile (files (word words 1)) (λ stock. Is Done (bands_text stock)) s t
 
 -- what answers these words over these files

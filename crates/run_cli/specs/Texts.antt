@@ -23,6 +23,10 @@ train_pulls line stock = pulls_of line.slopes line.length stock.mass stock.lengt
 abbrev pub train_rule : LineTable → StockTable → StepRule
 train_rule line stock = rule_of stock.push.rows stock.brake.rows stock.moved_mass (train_pulls line stock)
 
+-- the caps of a train on a line, at both ends of which it stands
+abbrev pub train_caps : LineTable → StockTable → List ℕ
+train_caps line stock = caps_of line.length stock.length stock.top line.limits (record { at = 0; most = 0 } ∷ record { at = line.length; most = 0 } ∷ [])
+
 -- a cell, the pull there, and the greatest and the least squared speed after it from a squared speed before it
 abbrev pub rise_line : StepRule → List ℤ → ℕ → ℕ → List ℕ
 rise_line rule pulls before cell = numbers_text (pos cell ∷ row pulls cell ∷ rule.up cell before ∷ rule.low cell before ∷ [])

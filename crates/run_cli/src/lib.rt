@@ -10,13 +10,16 @@ ghost use Rattle.run_cli.specs.Stops.{StopsAs, StopsBy};
 ghost use Rattle.run_cli.specs.Words.{IsForm, files_by, form_of, most_steps, named_files};
 
 mod bands;
+mod brakes;
 mod caps;
 mod files;
+mod motion;
 mod rises;
 mod status;
 mod words;
 
 use crate::bands::run_stock;
+use crate::brakes::run_brakes;
 use crate::caps::run_caps;
 use crate::rises::run_rise;
 use crate::words::{Form, read_form};
@@ -85,6 +88,10 @@ fn run_form<S: Shelf, K: Sink, L: Ledger>(
         Form::Rise { kmh } => {
             let (line, stock) = (words[1].as_str(), words[2].as_str());
             run_rise(alloc, shelf, out, line, stock, kmh, steps)
+        }
+        Form::Brakes => {
+            let (line, stock) = (words[1].as_str(), words[2].as_str());
+            run_brakes(alloc, shelf, out, line, stock, steps)
         }
     }
 }

@@ -1,13 +1,12 @@
 //! The form `rise`: what the step rule makes of a speed at each cell of a line.
 
-ghost use Rattle.std.specs.Prelude.{◌≡◌, ◌≤◌, ◌<◌, ◌+◌, ◌*◌, ◌++◌, ◌∷◌, [], min, vec_len, length, All, OnOk, OnErr, IfOk, IfSome};
+ghost use Rattle.std.specs.Prelude.{◌≡◌, ◌≤◌, ◌<◌, ◌+◌, ◌*◌, ◌++◌, ◌∷◌, [], min, OnOk, OnErr, IfOk, IfSome};
 ghost use Rattle.std.specs.Io.KnownBytes.{Appends};
 ghost use Rattle.run_io.specs.Causes.{HasCause};
 ghost use Rattle.run_io.specs.Pages.{Carries};
 ghost use Rattle.run_io.specs.Texts.{lines_below};
 ghost use Rattle.run_io.specs.Writes.{AppendsFront};
 ghost use Rattle.run_rules.specs.Speeds.{squared};
-ghost use Rattle.run_rules.specs.Steps.{IsPull};
 ghost use Rattle.step_rule.specs.Motion.{cells_of, most_of, step_rule_of};
 ghost use Rattle.run_cli.specs.Answers.{Is, LineFile, StockFile};
 ghost use Rattle.run_cli.specs.Stops.{StopsAs, StopsBy};
@@ -15,13 +14,13 @@ ghost use Rattle.run_cli.specs.Texts.{rise_line, rise_text};
 
 use crate::Status;
 use crate::files::{load_line, load_stock};
+use crate::motion::rule_of;
 use report_text::put_numbers;
 use run_io::{Failed, Page, Shelf, Sink};
 use run_rules::squared;
 use std::alloc::Global;
 use std::sync::ledger::Ledger;
 use step_rule::Rule;
-use stock_tables::Stock;
 use train_mean::pulls;
 use unit_rules::{Memory, Steps};
 
@@ -59,18 +58,6 @@ fn copied(alloc: Global, pulls: &[i64]) -> Result<Vec<i64>, Memory>
         Ok(copy) => Ok(copy),
         Err(_) => Err(Memory),
     }
-}
-
-// The step rule of a stock under these pulls.
-fn rule_of(stock: Stock, pulls: Vec<i64>) -> Rule
-    requires least { 2 ≤ vec_len pulls }
-    requires most { vec_len pulls ≤ 500000 }
-    requires small { All IsPull pulls.items }
-    ensures { result ≡ record { push = stock.push; brake = stock.brake; moved = stock.moved_mass; pulls = pulls.items } }
-{
-    let moved = stock.moved_mass();
-    let (push, brake) = stock.into_bands();
-    Rule::new(push, brake, moved, pulls)
 }
 
 // Writes a line for each cell.

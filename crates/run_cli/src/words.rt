@@ -15,6 +15,8 @@ pub(crate) enum Form {
     Bands,
     // The step rule of a train on a line, at each cell from that speed in km/h.
     Rise { kmh: u32 },
+    // The braking list of a train on a line.
+    Brakes,
 }
 
 // The form of the words, if they are one.
@@ -31,6 +33,11 @@ pub(crate) fn read_form(words: &[String]) -> Option<Form>
         && is_name(words[2].as_bytes())
     {
         read_rise(words[3].as_bytes())
+    } else if asks(words, "brakes", 3)
+        && is_name(words[1].as_bytes())
+        && is_name(words[2].as_bytes())
+    {
+        Some(Form::Brakes)
     } else {
         None
     }

@@ -1,5 +1,5 @@
 use Rattle.std.proofs.Common.{◌∙◌, ◌∷◌, [], List, ℕ, map, string_bytes, ap, arith, subst}
-use Rattle.run_cli.specs.Answers.{Is}
+use Rattle.run_cli.specs.Answers.{Is, IsBrakes}
 use Rattle.run_cli.specs.Stops.{StopsBy}
 use Rattle.run_cli.specs.Texts.{rise_text}
 use Rattle.run_cli.specs.Words.{word}
@@ -43,3 +43,23 @@ returns-in-Rise-clause-causes g c =
     rw form (subst (λ (names : List (List ℕ)). StopsBy ⊥ names (g.S.Shelf.files c.args.shelf.now) (g.S.Shelf.faults c.args.shelf.now) (g.S.Shelf.faults c.run_rise.new.shelf)
     (g.K.Sink.faults c.args.out.now) (g.K.Sink.faults c.run_rise.new.out) c.run_rise.result)
     (ap (λ (n : List ℕ). n ∷ c.as_str-stock.result.now ∷ []) line ∙ ap (λ (n : List ℕ). word (map string_bytes c.args.words.now) 1 ∷ n ∷ []) stock) c.run_rise.ensures.causes)
+
+pub returns-in-Brakes-clause-ends : goal.returns-in-Brakes-clause-ends
+returns-in-Brakes-clause-ends g c =
+    let form = c.in-Brakes.is in
+    let count = rw form at c.requires in
+    let line = c.as_str-line-in-Brakes.ensures.value ∙ word-string_bytes string_bytes c.args.words.now 1 c.index-words-1-in-Brakes.result c.index-words-1-in-Brakes.is (omega (arith, count)) in
+    let stock = c.as_str-stock-in-Brakes.ensures.value ∙ word-string_bytes string_bytes c.args.words.now 2 c.index-words-2-in-Brakes.result c.index-words-2-in-Brakes.is (omega (arith, count)) in
+    rw form (StopsAs-named (g.S.Shelf.files c.args.shelf.now) c.as_str-line-in-Brakes.result.now c.as_str-stock-in-Brakes.result.now (word (map string_bytes c.args.words.now) 1) (word (map string_bytes c.args.words.now) 2)
+    (λ l s. IsBrakes l s) (g.S.Shelf.faults c.args.shelf.now) (g.S.Shelf.faults c.run_brakes.new.shelf) (g.K.Sink.written c.args.out.now)
+    (g.K.Sink.written c.run_brakes.new.out) c.run_brakes.result line stock c.run_brakes.ensures.ends)
+
+pub returns-in-Brakes-clause-causes : goal.returns-in-Brakes-clause-causes
+returns-in-Brakes-clause-causes g c =
+    let form = c.in-Brakes.is in
+    let count = rw form at c.requires in
+    let line = c.as_str-line-in-Brakes.ensures.value ∙ word-string_bytes string_bytes c.args.words.now 1 c.index-words-1-in-Brakes.result c.index-words-1-in-Brakes.is (omega (arith, count)) in
+    let stock = c.as_str-stock-in-Brakes.ensures.value ∙ word-string_bytes string_bytes c.args.words.now 2 c.index-words-2-in-Brakes.result c.index-words-2-in-Brakes.is (omega (arith, count)) in
+    rw form (subst (λ (names : List (List ℕ)). StopsBy ⊥ names (g.S.Shelf.files c.args.shelf.now) (g.S.Shelf.faults c.args.shelf.now) (g.S.Shelf.faults c.run_brakes.new.shelf)
+    (g.K.Sink.faults c.args.out.now) (g.K.Sink.faults c.run_brakes.new.out) c.run_brakes.result)
+    (ap (λ (n : List ℕ). n ∷ c.as_str-stock-in-Brakes.result.now ∷ []) line ∙ ap (λ (n : List ℕ). word (map string_bytes c.args.words.now) 1 ∷ n ∷ []) stock) c.run_brakes.ensures.causes)
