@@ -5,6 +5,8 @@ use Rattle.std.specs.List.{join_with_byte}
 use Rattle.run_io.specs.Texts.{lines_below}
 use Rattle.run_rules.specs.Grids.{row}
 use Rattle.stock_tables.specs.Stock.{StockTable}
+use Rattle.unit_rules.specs.declared.Reach.{Reach}
+use Rattle.unit_rules.specs.declared.Reach.TheVariants.{Whole, Stalled}
 
 -- a text behind a space, where it isn't the first
 abbrev pub spaced : ℕ → List ℕ → List ℕ
@@ -33,3 +35,8 @@ speed_line stock kmh = numbers_text (pos kmh ∷ row stock.push.rows kmh ∷ row
 -- the tables of a train, up to its top speed
 abbrev pub bands_text : StockTable → List ℕ
 bands_text stock = train_line stock ++ lines_below (speed_line stock) (stock.top + 1)
+
+-- how far a train gets: over the whole line, or not to a point
+abbrev pub reach_text : Reach → List ℕ
+reach_text Whole = codes "whole\n"
+reach_text (Stalled k) = codes "stalled " ++ decimal k ++ codes "\n"

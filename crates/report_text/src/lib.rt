@@ -1,16 +1,17 @@
 //! The texts that rtime prints. None of these calls takes memory: each text goes out through one page.
 #![tactic(auto)]
 
-ghost use Rattle.std.specs.Prelude.{◌≡◌, ◌≤◌, ◌<◌, ◌+◌, ◌++◌, ◌^◌, if◌then◌else◌, ◌==◌, length, codes, OnOk, OnErr};
+ghost use Rattle.std.specs.Prelude.{◌≡◌, ◌≤◌, ◌<◌, ◌+◌, ◌++◌, ◌^◌, if◌then◌else◌, ◌==◌, [], length, codes, OnOk, OnErr};
 ghost use Rattle.std.specs.Fmt.{signed_decimal};
 ghost use Rattle.std.specs.Io.KnownBytes.{Appends};
 ghost use Rattle.run_io.specs.Causes.{HasCause};
 ghost use Rattle.run_io.specs.Pages.{Carries};
 ghost use Rattle.run_io.specs.Writes.{AppendsFront};
-ghost use Rattle.report_text.specs.Texts.{bands_text, list_text, numbers_text, point_line, spaced, speed_line, train_line};
+ghost use Rattle.report_text.specs.Texts.{bands_text, list_text, numbers_text, point_line, reach_text, spaced, speed_line, train_line};
 
 use run_io::{Failed, PAGE, Page, Sink};
 use stock_tables::Stock;
+use unit_rules::Reach;
 
 /// Writes the numbers in decimal, one space between, and a line end.
 pub fn write_numbers<K: Sink>(out: &mut K, numbers: &[i64]) -> Result<(), Failed>
@@ -113,6 +114,32 @@ fn put_point(page: &mut Page, point: u64, number: u32)
     page.put(b" ");
     page.put_number(number as u64);
     page.put(b"\n");
+}
+
+/// Writes how far a train gets: `whole`, or `stalled K` with the first point that no train gets to.
+pub fn write_reach<K: Sink>(out: &mut K, reach: Reach) -> Result<(), Failed>
+    ensures ok { OnOk result (Appends (K.written out.old) (K.written out.new) (reach_text reach)) }
+    ensures failed { OnErr result (AppendsFront (K.written out.old) (K.written out.new) (reach_text reach)) }
+    ensures cause { HasCause (K.faults out.old) (K.faults out.new) result }
+{
+    let mut page = Page::new();
+    put_reach(&mut page, reach);
+    page.flush(out)
+}
+
+// Puts how far a train gets on an empty page.
+fn put_reach(page: &mut Page, reach: Reach)
+    requires { page.old ≡ [] }
+    ensures { page.new ≡ reach_text reach }
+{
+    match reach {
+        Reach::Whole => page.put(b"whole\n"),
+        Reach::Stalled { k } => {
+            page.put(b"stalled ");
+            page.put_number(k as u64);
+            page.put(b"\n");
+        }
+    }
 }
 
 #[cfg(test)]

@@ -15,9 +15,11 @@ fn texts(rt: HostRuntime) -> Result<(), Fail> {
     assert!(rt; write_numbers(&mut out, &[0, -25920, i64::MIN]) == Ok(()));
     assert!(rt; write_numbers(&mut out, &[]) == Ok(()));
     assert!(rt; write_list(&mut out, &[0, 20000, 0]) == Ok(()));
+    assert!(rt; write_reach(&mut out, Reach::Whole) == Ok(()));
+    assert!(rt; write_reach(&mut out, Reach::Stalled { k: 256 }) == Ok(()));
     assert_eq!(rt;
         out.written(),
-        b"0 -25920 -9223372036854775808\n\n0 0\n1 20000\n2 0\n".as_slice()
+        b"0 -25920 -9223372036854775808\n\n0 0\n1 20000\n2 0\nwhole\nstalled 256\n".as_slice()
     );
     Ok(())
 }

@@ -11,10 +11,10 @@ use Rattle.run_cli.specs.Ends.{CausedBy, EndsAs, EndsShort, EndsWhole, IsQuiet}
 use Rattle.run_cli.specs.Finishes.{FinishesAs}
 use Rattle.run_cli.specs.Statuses.{status_text}
 use Rattle.run_cli.specs.Stops.{StopsAs, StopsBefore, StopsBy}
-use Rattle.run_cli.specs.Words.{files_by, form_of, named_files, word}
+use Rattle.run_cli.specs.Words.{word}
 use Rattle.run_cli.specs.declared.words.Form.{Form}
 use Rattle.run_cli.specs.declared.status.Status.{Status}
-use Rattle.run_cli.specs.declared.status.Status.TheVariants.{Done, Memory, Usage, ReadFault, WriteFault, Refused, TooLong}
+use Rattle.run_cli.specs.declared.status.Status.TheVariants.{Done, Memory, Usage, ReadFault, WriteFault, Refused, Stalled, TooLong}
 
 -- the text of a status, or a front of it, behind nothing
 EndsAs-text : (answers : Status → List ℕ → Type 0) (status : Status) (a b c : Option (List ℕ)) (before now : ℕ) (result : Status)
@@ -42,6 +42,12 @@ Appends-front_none : (b c : Option (List ℕ)) → AppendsFront b c [] → Appen
 Appends-front_none b c f =
     let none : take f.0 [] ≡ [] = grind (arith, common_steps) in
     subst (λ (l : List ℕ). Appends b c l) none f.2
+
+-- a whole text is a front of itself
+AppendsFront-all : (b c : Option (List ℕ)) (text : List ℕ) → Appends b c text → AppendsFront b c text
+AppendsFront-all b c text h =
+    let all : take (length text) text ≡ text = grind (arith, common_steps) in
+    (length text, omega arith, subst (λ (l : List ℕ). Appends b c l) (sym all) h)
 
 -- a status that has no text of its own stays, or the sink fails behind it
 either_way : (status : Status) (b c : Option (List ℕ)) (before now : ℕ) (result : Status) → status_text status ≡ []
@@ -72,6 +78,13 @@ EndsAs-finish answers shelf shelf' a b c before now (Err ReadFault) result s f =
     by (inr e, q) = subst (λ (r : Status). EndsAs answers a c r) (sym e) (inl (Appends-none a b c [] s.unwritten q))
 EndsAs-finish answers shelf shelf' a b c before now (Err Usage) result s f = EndsAs-text answers Usage a b c before now result s (λ w. w) f
 EndsAs-finish answers shelf shelf' a b c before now (Err (Refused file place rule)) result s f = EndsAs-text answers (Refused file place rule) a b c before now result s (λ w. w) f
+EndsAs-finish answers shelf shelf' a b c before now (Err (Stalled point)) result s f = by (either_way (Stalled point) b c before now result refl f)
+  where
+    by : ((result ≡ Stalled point) ⊎ (result ≡ WriteFault)) × Appends b c [] → EndsAs answers a c result
+    by (inl e, q) = subst (λ (r : Status). EndsAs answers a c r) (sym e) (record { text = s.text; answer = s.answer; written = Appends-none a b c s.text s.written q })
+    by (inr e, q) =
+        subst (λ (r : Status). EndsAs answers a c r) (sym e)
+        (inr (record { status = Stalled point; text = s.text; answer = s.answer; written = AppendsFront-all a c s.text (Appends-none a b c s.text s.written q) }))
 EndsAs-finish answers shelf shelf' a b c before now (Err (TooLong file)) result s f = EndsAs-text answers (TooLong file) a b c before now result s (λ w. w) f
 EndsAs-finish answers shelf shelf' a b c before now (Err Done) result s f = absurd s
 
@@ -96,63 +109,44 @@ EndsWhole-text answers status a b c before between now result answer unwritten l
 EndsWhole-text answers status a b c before between now result answer unwritten later quiet (inr h) = absurd (IsQuiet-Rose before between now later h.2 quiet)
 
 -- where no count rose, a run ends with its whole text, or for want of memory
-EndsWhole-quiet : (answers : Status → List ℕ → Type 0) (no_form : Type 0) (names : List (List ℕ)) (told : Files) (shelf shelf' : ℕ) (a b c : Option (List ℕ)) (before between now : ℕ)
-    (stopped : Result (Unit {0}) Status) (result : Status) → StopsAs answers shelf shelf' a b stopped → StopsBy no_form names told shelf shelf' before between stopped
+EndsWhole-quiet : (answers : Status → List ℕ → Type 0) (form : Option Form) (names : List (List ℕ)) (told : Files) (shelf shelf' : ℕ) (a b c : Option (List ℕ)) (before between now : ℕ)
+    (stopped : Result (Unit {0}) Status) (result : Status) → StopsAs answers shelf shelf' a b stopped → StopsBy form names told shelf shelf' before between stopped
     → FinishesAs stopped b c between now result → between ≤ now → IsQuiet shelf shelf' → IsQuiet before now → (result ≡ Memory) ⊎ EndsWhole answers result a c
-EndsWhole-quiet answers no_form names told shelf shelf' a b c before between now (Ok u) result s by f later quiet_shelf quiet =
+EndsWhole-quiet answers form names told shelf shelf' a b c before between now (Ok u) result s by f later quiet_shelf quiet =
     inr (subst (λ (r : Status). EndsWhole answers r a c) (sym f.0) (record { text = s.text; answer = s.answer; written = Appends-none a b c s.text s.written f.1 }))
-EndsWhole-quiet answers no_form names told shelf shelf' a b c before between now (Err Memory) result s by (inl f) later quiet_shelf quiet = inl f.0
-EndsWhole-quiet answers no_form names told shelf shelf' a b c before between now (Err Memory) result s by (inr f) later quiet_shelf quiet =
+EndsWhole-quiet answers form names told shelf shelf' a b c before between now (Err Memory) result s by (inl f) later quiet_shelf quiet = inl f.0
+EndsWhole-quiet answers form names told shelf shelf' a b c before between now (Err Memory) result s by (inr f) later quiet_shelf quiet =
     absurd (IsQuiet-Rose before between now by.later f.2 quiet)
-EndsWhole-quiet answers no_form names told shelf shelf' a b c before between now (Err WriteFault) result s by f later quiet_shelf quiet =
+EndsWhole-quiet answers form names told shelf shelf' a b c before between now (Err WriteFault) result s by f later quiet_shelf quiet =
     absurd (omega (arith, by.later, by.cause, later, quiet.room, quiet.same))
-EndsWhole-quiet answers no_form names told shelf shelf' a b c before between now (Err ReadFault) result s by f later quiet_shelf quiet = read s.reason
+EndsWhole-quiet answers form names told shelf shelf' a b c before between now (Err ReadFault) result s by f later quiet_shelf quiet = read s.reason
   where
     read : Rose shelf shelf' ⊎ answers ReadFault [] → (result ≡ Memory) ⊎ EndsWhole answers result a c
     read (inl rose) = absurd (IsQuiet-Rose shelf shelf shelf' (omega arith) rose quiet_shelf)
     read (inr answer) = EndsWhole-text answers ReadFault a b c before between now result answer s.unwritten by.later quiet f
-EndsWhole-quiet answers no_form names told shelf shelf' a b c before between now (Err Usage) result s by f later quiet_shelf quiet =
+EndsWhole-quiet answers form names told shelf shelf' a b c before between now (Err Usage) result s by f later quiet_shelf quiet =
     EndsWhole-text answers Usage a b c before between now result s.answer s.unwritten by.later quiet f
-EndsWhole-quiet answers no_form names told shelf shelf' a b c before between now (Err (Refused file place rule)) result s by f later quiet_shelf quiet =
+EndsWhole-quiet answers form names told shelf shelf' a b c before between now (Err (Refused file place rule)) result s by f later quiet_shelf quiet =
     EndsWhole-text answers (Refused file place rule) a b c before between now result s.answer s.unwritten by.later quiet f
-EndsWhole-quiet answers no_form names told shelf shelf' a b c before between now (Err (TooLong file)) result s by f later quiet_shelf quiet =
+EndsWhole-quiet answers form names told shelf shelf' a b c before between now (Err (Stalled point)) result s by (inl f) later quiet_shelf quiet =
+    inr (subst (λ (r : Status). EndsWhole answers r a c) (sym f.0) (record { text = s.text; answer = s.answer; written = Appends-none a b c s.text s.written f.1 }))
+EndsWhole-quiet answers form names told shelf shelf' a b c before between now (Err (Stalled point)) result s by (inr f) later quiet_shelf quiet =
+    absurd (IsQuiet-Rose before between now by.later f.2 quiet)
+EndsWhole-quiet answers form names told shelf shelf' a b c before between now (Err (TooLong file)) result s by f later quiet_shelf quiet =
     EndsWhole-text answers (TooLong file) a b c before between now result s.answer s.unwritten by.later quiet f
-EndsWhole-quiet answers no_form names told shelf shelf' a b c before between now (Err Done) result s by f later quiet_shelf quiet = absurd s
+EndsWhole-quiet answers form names told shelf shelf' a b c before between now (Err Done) result s by f later quiet_shelf quiet = absurd s
 
 -- the same over a shelf that may tell its files
-pub EndsWhole-told : (told : Files) (answers : (List ℕ → Option (List ℕ)) → Status → List ℕ → Type 0) (no_form : Type 0) (names : List (List ℕ)) (shelf shelf' : ℕ) (a b c : Option (List ℕ))
+pub EndsWhole-told : (told : Files) (answers : (List ℕ → Option (List ℕ)) → Status → List ℕ → Type 0) (form : Option Form) (names : List (List ℕ)) (shelf shelf' : ℕ) (a b c : Option (List ℕ))
     (before between now : ℕ) (stopped : Result (Unit {0}) Status) (result : Status) → IfSome told (λ files. StopsAs (answers files) shelf shelf' a b stopped)
-    → StopsBy no_form names told shelf shelf' before between stopped → FinishesAs stopped b c between now result → between ≤ now → IsQuiet shelf shelf' → IsQuiet before now
+    → StopsBy form names told shelf shelf' before between stopped → FinishesAs stopped b c between now result → between ≤ now → IsQuiet shelf shelf' → IsQuiet before now
     → IfSome told (λ files. (result ≡ Memory) ⊎ EndsWhole (answers files) result a c)
-EndsWhole-told None answers no_form names shelf shelf' a b c before between now stopped result s by f later quiet_shelf quiet = tt
-EndsWhole-told (Some files) answers no_form names shelf shelf' a b c before between now stopped result s by f later quiet_shelf quiet =
-    EndsWhole-quiet (answers files) no_form names (Some files) shelf shelf' a b c before between now stopped result s by f later quiet_shelf quiet
+EndsWhole-told None answers form names shelf shelf' a b c before between now stopped result s by f later quiet_shelf quiet = tt
+EndsWhole-told (Some files) answers form names shelf shelf' a b c before between now stopped result s by f later quiet_shelf quiet =
+    EndsWhole-quiet (answers files) form names (Some files) shelf shelf' a b c before between now stopped result s by f later quiet_shelf quiet
 
 -- a word by its place
 pub word-string_bytes : {W : Type 0} (bytes : W → List ℕ) (words : List W) (place : ℕ) (w : W) → w ≡ get_or words place w → place < length words → bytes w ≡ word (map bytes words) place
 word-string_bytes bytes [] place w e h = absurd (omega arith)
 word-string_bytes bytes (x ∷ xs) zero w e h = ap bytes e
 word-string_bytes bytes (x ∷ xs) (suc place) w e h = word-string_bytes bytes xs place w e (omega arith)
-
--- the causes that a form has, by the words that ask for it
-pub StopsBy-form : (words : List (List ℕ)) (form : Form) (names : List (List ℕ)) (files : Files) (shelf shelf' sink sink' : ℕ) (stopped : Result (Unit {0}) Status)
-    → form_of words ≡ Some form → names ≡ files_by (Some form) words → StopsBy ⊥ names files shelf shelf' sink sink' stopped
-    → StopsBy (form_of words ≡ None) (named_files words) files shelf shelf' sink sink' stopped
-StopsBy-form words form names files shelf shelf' sink sink' stopped e n s =
-    record { later = s.later; cause = by stopped s.cause }
-  where
-    named : names ≡ named_files words
-    named = rw (e, n) refl
-
-    at : (t : Status) → CausedBy ⊥ names files shelf shelf' sink sink' t → CausedBy (form_of words ≡ None) (named_files words) files shelf shelf' sink sink' t
-    at Memory h = tt
-    at Done h = tt
-    at Usage h = absurd h
-    at ReadFault h = subst (λ (q : List (List ℕ)). CausedBy ⊥ q files shelf shelf' sink sink' ReadFault) named h
-    at WriteFault h = h
-    at (Refused file place rule) h = tt
-    at (TooLong file) h = tt
-
-    by : (r : Result (Unit {0}) Status) → IfErr r (CausedBy ⊥ names files shelf shelf' sink sink') → IfErr r (CausedBy (form_of words ≡ None) (named_files words) files shelf shelf' sink sink')
-    by (Ok u) h = tt
-    by (Err t) h = at t h

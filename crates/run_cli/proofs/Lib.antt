@@ -2,3 +2,4 @@ pub mod EndFacts
 pub mod LoadFacts
 pub mod RiseFacts
 pub mod BrakeFacts
+pub mod EnvelopeFacts

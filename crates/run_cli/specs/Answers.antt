@@ -4,16 +4,17 @@ use Rattle.line_tables.specs.LineFile as line
 use Rattle.line_tables.specs.Table.{LineTable}
 use Rattle.stock_tables.specs.StockFile as stock
 use Rattle.stock_tables.specs.Stock.{StockTable}
-use Rattle.report_text.specs.Texts.{bands_text, list_text}
-use Rattle.run_rules.specs.Runs.{IsBrakingList}
+use Rattle.report_text.specs.Texts.{bands_text, list_text, reach_text}
+use Rattle.run_rules.specs.Runs.{IsBrakingList, IsGreatestRun, IsStalled}
+use Rattle.unit_rules.specs.declared.Reach.TheVariants as reach
 use Rattle.run_cli.specs.Files.{most_bytes}
 use Rattle.run_cli.specs.Statuses.{line_status, status_text, stock_status}
 use Rattle.run_cli.specs.Texts.{caps_text, rise_text, train_caps, train_rule}
 use Rattle.run_cli.specs.Words.{form_of, word}
 use Rattle.run_cli.specs.declared.status.Status.{Status}
-use Rattle.run_cli.specs.declared.status.Status.TheVariants.{Done, Usage, ReadFault, TooLong}
+use Rattle.run_cli.specs.declared.status.Status.TheVariants.{Done, Usage, ReadFault, Stalled, TooLong}
 use Rattle.run_cli.specs.declared.words.Form.{Form}
-use Rattle.run_cli.specs.declared.words.Form.TheVariants.{Caps, Bands, Rise, Brakes}
+use Rattle.run_cli.specs.declared.words.Form.TheVariants.{Caps, Bands, Rise, Brakes, Envelope}
 
 -- which statuses with which texts answer
 abbrev pub Answer : Type 1
@@ -53,12 +54,32 @@ pub record IsBrakes (line : LineTable) (stock : StockTable) (s : Status) (t : Li
   pub is_list : IsBrakingList (train_rule line stock) (train_caps line stock) list
   pub text_is : t ≡ list_text list
 
+-- the greatest run of the train over the line, where it stands at both ends
+pub record IsFastestRun (line : LineTable) (stock : StockTable) (s : Status) (t : List ℕ) : Type 0 where
+  pub status_is : s ≡ Done
+  pub run : List ℕ
+  pub is_greatest : IsGreatestRun (train_rule line stock) (train_caps line stock) run
+  pub text_is : t ≡ list_text run
+
+-- the point at which the train is stalled, where it stands at both ends of the line
+pub record IsStall (line : LineTable) (stock : StockTable) (s : Status) (t : List ℕ) : Type 0 where
+  pub point : ℕ
+  pub is_stalled : IsStalled (train_rule line stock) (train_caps line stock) point
+  pub status_is : s ≡ Stalled point
+  pub text_is : t ≡ reach_text (reach.Stalled point)
+
+-- the envelope of the train on the line: its greatest run or its stall
+abbrev pub IsEnvelope : LineTable → StockTable → Answer
+IsEnvelope line stock s t = IsFastestRun line stock s t ⊎ IsStall line stock s t
+
+-- what answers a form, over the files that the words name
 abbrev pub AnswersBy : Option Form → List (List ℕ) → (List ℕ → Option (List ℕ)) → Status → List ℕ → Type 0
 AnswersBy None words files s t = Refuses Usage s t
 AnswersBy (Some (Caps train top)) words files s t = LineFile (files (word words 1)) (λ line. Is Done (caps_text line train top)) s t
 AnswersBy (Some (Rise kmh)) words files s t =
     LineFile (files (word words 1)) (λ line. StockFile (files (word words 2)) (λ stock. Is Done (rise_text line stock kmh))) s t
 AnswersBy (Some Brakes) words files s t = LineFile (files (word words 1)) (λ line. StockFile (files (word words 2)) (λ stock. IsBrakes line stock)) s t
+AnswersBy (Some Envelope) words files s t = LineFile (files (word words 1)) (λ line. StockFile (files (word words 2)) (λ stock. IsEnvelope line stock)) s t
 AnswersBy (Some Bands) words files s t = StockFile (files (word words 1)) (λ stock. Is Done (bands_text stock)) s t
 
 -- what answers these words over these files

@@ -4,9 +4,10 @@ use Rattle.std.specs.Io.KnownBytes.{Appends}
 use Rattle.run_io.specs.Causes.{Rose}
 use Rattle.run_io.specs.Fetches.{Files, IsAbsent}
 use Rattle.run_io.specs.Writes.{AppendsFront}
-use Rattle.run_cli.specs.Words.{form_of, named_files}
+use Rattle.run_cli.specs.Words.{MayStall, files_by, form_of}
+use Rattle.run_cli.specs.declared.words.Form.{Form}
 use Rattle.run_cli.specs.declared.status.Status.{Status}
-use Rattle.run_cli.specs.declared.status.Status.TheVariants.{Done, Memory, Usage, ReadFault, WriteFault, Refused, TooLong}
+use Rattle.run_cli.specs.declared.status.Status.TheVariants.{Done, Memory, Usage, ReadFault, WriteFault, Refused, Stalled, TooLong}
 
 -- a text that answers was written whole, under its status
 pub record EndsWhole (answers : Status → List ℕ → Type 0) (status : Status) (old new : Option (List ℕ)) : Type 0 where
@@ -30,22 +31,24 @@ EndsAs answers old new ReadFault = Appends old new []
 EndsAs answers old new Done = EndsWhole answers Done old new
 EndsAs answers old new Usage = EndsWhole answers Usage old new
 EndsAs answers old new (Refused file place rule) = EndsWhole answers (Refused file place rule) old new
+EndsAs answers old new (Stalled point) = EndsWhole answers (Stalled point) old new
 EndsAs answers old new (TooLong file) = EndsWhole answers (TooLong file) old new
 
--- the cause of a status: for a fault a count that rose, or one of the files that is not there; for a refused command
--- line that fact
-abbrev pub CausedBy : Type 0 → List (List ℕ) → Files → ℕ → ℕ → ℕ → ℕ → Status → Type 0
-CausedBy no_form names files shelf shelf' sink sink' ReadFault = Rose shelf shelf' ⊎ Any (IsAbsent files) names
-CausedBy no_form names files shelf shelf' sink sink' WriteFault = Rose sink sink'
-CausedBy no_form names files shelf shelf' sink sink' Usage = no_form
-CausedBy no_form names files shelf shelf' sink sink' Memory = ⊤
-CausedBy no_form names files shelf shelf' sink sink' Done = ⊤
-CausedBy no_form names files shelf shelf' sink sink' (Refused file place rule) = ⊤
-CausedBy no_form names files shelf shelf' sink sink' (TooLong file) = ⊤
+-- the cause of a status, by the form of the words and the files that they name: for a fault a count that rose, or one
+-- of the files that is not there; for a refused command line that it has no form; for a stall that the form runs a train
+abbrev pub CausedBy : Option Form → List (List ℕ) → Files → ℕ → ℕ → ℕ → ℕ → Status → Type 0
+CausedBy form names files shelf shelf' sink sink' ReadFault = Rose shelf shelf' ⊎ Any (IsAbsent files) names
+CausedBy form names files shelf shelf' sink sink' WriteFault = Rose sink sink'
+CausedBy form names files shelf shelf' sink sink' Usage = form ≡ None
+CausedBy form names files shelf shelf' sink sink' (Stalled point) = MayStall form
+CausedBy form names files shelf shelf' sink sink' Memory = ⊤
+CausedBy form names files shelf shelf' sink sink' Done = ⊤
+CausedBy form names files shelf shelf' sink sink' (Refused file place rule) = ⊤
+CausedBy form names files shelf shelf' sink sink' (TooLong file) = ⊤
 
 -- the cause of a status, by the words
 abbrev pub HasCauses : List (List ℕ) → Files → ℕ → ℕ → ℕ → ℕ → Status → Type 0
-HasCauses words files shelf shelf' sink sink' s = CausedBy (form_of words ≡ None) (named_files words) files shelf shelf' sink sink' s
+HasCauses words files shelf shelf' sink sink' s = CausedBy (form_of words) (files_by (form_of words) words) files shelf shelf' sink sink' s
 
 -- a count that did not rise, and does not stand at the end of its type
 pub record IsQuiet (before now : ℕ) : Type 0 where

@@ -1,7 +1,7 @@
 -- The exit status of the process.
 use Rattle.std.specs.Prelude.{ℕ}
 use Rattle.run_cli.specs.declared.status.Status.{Status}
-use Rattle.run_cli.specs.declared.status.Status.TheVariants.{Done, Memory, Usage, ReadFault, WriteFault, Refused, TooLong}
+use Rattle.run_cli.specs.declared.status.Status.TheVariants.{Done, Memory, Usage, ReadFault, WriteFault, Refused, Stalled, TooLong}
 
 abbrev pub exit_of : Status → ℕ
 exit_of Done = 0
@@ -10,4 +10,5 @@ exit_of Usage = 2
 exit_of ReadFault = 3
 exit_of WriteFault = 4
 exit_of (Refused file place rule) = 5
+exit_of (Stalled point) = 6
 exit_of (TooLong file) = 8

@@ -1,14 +1,15 @@
 -- The files of a form, fetched and read.
-use Rattle.std.specs.Prelude.{ℕ, ◌≡◌, ◌≤◌, ◌<◌, ◌⊎◌, List, length, Option, Some, Ok, IfSome, ⊤}
+use Rattle.std.specs.Prelude.{ℕ, ◌≡◌, ◌≤◌, ◌<◌, ◌⊎◌, List, [], length, Option, None, Some, Result, Ok, Err, IfSome, Any, ⊤}
 use Rattle.run_io.specs.Causes.{Rose}
 use Rattle.run_io.specs.Fetches.{Files, IsAbsent}
 use Rattle.line_tables.specs.LineFile as line
 use Rattle.line_tables.specs.Table.{LineTable}
+use Rattle.line_tables.specs.declared.LineFault.{LineFault}
 use Rattle.stock_tables.specs.StockFile as stock
 use Rattle.stock_tables.specs.Stock.{StockTable}
 use Rattle.run_cli.specs.Statuses.{status_text}
 use Rattle.run_cli.specs.declared.status.Status.{Status}
-use Rattle.run_cli.specs.declared.status.Status.TheVariants.{Done, Memory, Usage, ReadFault, WriteFault, Refused, TooLong}
+use Rattle.run_cli.specs.declared.status.Status.TheVariants.{Done, Memory, Usage, ReadFault, WriteFault, Refused, Stalled, TooLong}
 
 -- how many bytes a file may have
 abbrev pub most_bytes : ℕ
@@ -32,6 +33,7 @@ FetchStops told before now number name Done = ⊥
 FetchStops told before now number name Usage = ⊥
 FetchStops told before now number name WriteFault = ⊥
 FetchStops told before now number name (Refused file place rule) = ⊥
+FetchStops told before now number name (Stalled point) = ⊥
 
 -- a file that is there reads as this line
 pub record IsLineOf (file : Option (List ℕ)) (table : LineTable) : Type 0 where
@@ -47,16 +49,34 @@ pub record IsStockOf (file : Option (List ℕ)) (table : StockTable) : Type 0 wh
   pub short : length bytes ≤ most_bytes
   pub reads : stock.reading_of bytes ≡ Ok table
 
+-- how many cells the line has that a file reads as; none where it reads as no line
+abbrev pub cells_read : Result LineTable LineFault → ℕ
+cells_read (Ok table) = table.length
+cells_read (Err fault) = 0
+
+abbrev pub cells_in : Option (List ℕ) → ℕ
+cells_in None = 0
+cells_in (Some bytes) = cells_read (line.reading_of bytes)
+
+-- how many cells the line of the file of that name has; where no files are told, as many as any line may have
+abbrev pub most_cells : Files → List ℕ → ℕ
+most_cells None name = 500000
+most_cells (Some files) name = cells_in (files name)
+
 -- nothing answers any more
 abbrev pub Never : {X : Type 0} → X → Status → List ℕ → Type 0
 Never x s t = ⊥
 
--- why a file is not loaded: a fault of reading has its cause, and a refusal is one of those that the file has
-abbrev pub LoadStops : Files → ℕ → ℕ → List ℕ → (Option (List ℕ) → Status → List ℕ → Type 0) → Status → Type 0
-LoadStops told before now name refuses Memory = ⊤
-LoadStops told before now name refuses ReadFault = Rose before now ⊎ IsAbsent told name
-LoadStops told before now name refuses (TooLong file) = IfSome told (λ files. refuses (files name) (TooLong file) (status_text (TooLong file)))
-LoadStops told before now name refuses (Refused file place rule) = IfSome told (λ files. refuses (files name) (Refused file place rule) (status_text (Refused file place rule)))
-LoadStops told before now name refuses Done = ⊥
-LoadStops told before now name refuses Usage = ⊥
-LoadStops told before now name refuses WriteFault = ⊥
+-- why files are not loaded: for a fault of reading a count that rose, or one of the files that is not there, where
+-- that answers; and a refusal is one of those that the files have
+abbrev pub LoadStops : Files → ℕ → ℕ → List (List ℕ) → ((List ℕ → Option (List ℕ)) → Status → List ℕ → Type 0) → Status → Type 0
+LoadStops told before now names refuses Memory = ⊤
+LoadStops told before now names refuses ReadFault =
+    Rose before now ⊎ (Any (IsAbsent told) names × IfSome told (λ files. refuses files ReadFault []))
+LoadStops told before now names refuses (TooLong file) = IfSome told (λ files. refuses files (TooLong file) (status_text (TooLong file)))
+LoadStops told before now names refuses (Refused file place rule) =
+    IfSome told (λ files. refuses files (Refused file place rule) (status_text (Refused file place rule)))
+LoadStops told before now names refuses Done = ⊥
+LoadStops told before now names refuses Usage = ⊥
+LoadStops told before now names refuses WriteFault = ⊥
+LoadStops told before now names refuses (Stalled point) = ⊥

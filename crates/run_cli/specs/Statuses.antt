@@ -6,9 +6,9 @@ use Rattle.line_tables.specs.declared.LineFault.TheVariants as line
 use Rattle.stock_tables.specs.declared.StockFault.{StockFault}
 use Rattle.stock_tables.specs.declared.StockFault.TheVariants as stock
 use Rattle.run_cli.specs.declared.status.Status.{Status}
-use Rattle.run_cli.specs.declared.status.Status.TheVariants.{Done, Memory, Usage, ReadFault, WriteFault, Refused, TooLong}
+use Rattle.run_cli.specs.declared.status.Status.TheVariants.{Done, Memory, Usage, ReadFault, WriteFault, Refused, Stalled, TooLong}
 
--- the text of a refusal; the others have none of their own
+-- the text of a refusal; the others have none of their own, as a form that ends by a stall has written its text
 abbrev pub status_text : Status → List ℕ
 status_text Done = []
 status_text Memory = []
@@ -16,6 +16,7 @@ status_text Usage = codes "usage\n"
 status_text ReadFault = []
 status_text WriteFault = []
 status_text (Refused file place rule) = codes "refused " ++ decimal file ++ codes " " ++ decimal place ++ codes " " ++ decimal rule ++ codes "\n"
+status_text (Stalled point) = []
 status_text (TooLong file) = codes "too long " ++ decimal file ++ codes "\n"
 
 -- a line file is file 1; where its line is missing, place and rule are 0

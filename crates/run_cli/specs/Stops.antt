@@ -1,12 +1,16 @@
--- Where a form stops: its text was written whole, or a status is in its way whose own text is still to be written.
+-- Where a form stops: its text was written whole, or a status is in its way. The own text of a status is still to be
+-- written; a form that ends by a stall has written its text.
 use Rattle.std.specs.Prelude.{ℕ, ◌≤◌, ◌⊎◌, List, [], Option, Result, Ok, Err, IfErr}
 use Rattle.std.specs.Io.KnownBytes.{Appends}
 use Rattle.run_io.specs.Causes.{Rose}
 use Rattle.run_io.specs.Fetches.{Files}
+use Rattle.unit_rules.specs.declared.Reach.{Reach}
+use Rattle.unit_rules.specs.declared.Reach.TheVariants as reach
 use Rattle.run_cli.specs.Ends.{CausedBy, EndsShort, EndsWhole}
 use Rattle.run_cli.specs.Statuses.{status_text}
 use Rattle.run_cli.specs.declared.status.Status.{Status}
-use Rattle.run_cli.specs.declared.status.Status.TheVariants.{Done, Memory, Usage, ReadFault, WriteFault, Refused, TooLong}
+use Rattle.run_cli.specs.declared.words.Form.{Form}
+use Rattle.run_cli.specs.declared.status.Status.TheVariants.{Done, Memory, Usage, ReadFault, WriteFault, Refused, Stalled, TooLong}
 
 -- nothing was written, and the status with its own text answers
 pub record StopsBefore (answers : Status → List ℕ → Type 0) (status : Status) (old new : Option (List ℕ)) : Type 0 where
@@ -24,6 +28,7 @@ StopsAt answers shelf shelf' old new WriteFault = Appends old new [] ⊎ EndsSho
 StopsAt answers shelf shelf' old new ReadFault = StopsUnread answers shelf shelf' old new
 StopsAt answers shelf shelf' old new Usage = StopsBefore answers Usage old new
 StopsAt answers shelf shelf' old new (Refused file place rule) = StopsBefore answers (Refused file place rule) old new
+StopsAt answers shelf shelf' old new (Stalled point) = EndsWhole answers (Stalled point) old new
 StopsAt answers shelf shelf' old new (TooLong file) = StopsBefore answers (TooLong file) old new
 StopsAt answers shelf shelf' old new Done = ⊥
 
@@ -31,7 +36,12 @@ abbrev pub StopsAs : (Status → List ℕ → Type 0) → ℕ → ℕ → Option
 StopsAs answers shelf shelf' old new (Ok u) = EndsWhole answers Done old new
 StopsAs answers shelf shelf' old new (Err status) = StopsAt answers shelf shelf' old new status
 
+-- how a form ends that has written how far its train gets
+abbrev pub stopped_by : Reach → Result (Unit {0}) Status
+stopped_by reach.Whole = Ok tt
+stopped_by (reach.Stalled k) = Err (Stalled k)
+
 -- the sink's count has not fallen, and the status has its cause
-pub record StopsBy (no_form : Type 0) (names : List (List ℕ)) (files : Files) (shelf shelf' sink sink' : ℕ) (stopped : Result (Unit {0}) Status) : Type 0 where
+pub record StopsBy (form : Option Form) (names : List (List ℕ)) (files : Files) (shelf shelf' sink sink' : ℕ) (stopped : Result (Unit {0}) Status) : Type 0 where
   pub later : sink ≤ sink'
-  pub cause : IfErr stopped (CausedBy no_form names files shelf shelf' sink sink')
+  pub cause : IfErr stopped (CausedBy form names files shelf shelf' sink sink')

@@ -1,6 +1,6 @@
 //! The form `caps`: the cap at each point of a line.
 
-ghost use Rattle.std.specs.Prelude.{◌≡◌, ◌≤◌, ◌∷◌, [], IfOk, IfSome};
+ghost use Rattle.std.specs.Prelude.{◌≡◌, ◌≤◌, ◌∷◌, [], Some, IfOk, IfSome};
 ghost use Rattle.limit_profile.specs.Profile.{caps};
 ghost use Rattle.run_cli.specs.Answers.{Is, LineFile};
 ghost use Rattle.run_cli.specs.Stops.{StopsAs, StopsBy};
@@ -8,6 +8,7 @@ ghost use Rattle.run_cli.specs.Texts.{caps_text};
 
 use crate::Status;
 use crate::files::load_line;
+use crate::words::Form;
 use limit_profile::Limits;
 use report_text::write_list;
 use run_io::{Shelf, Sink};
@@ -29,7 +30,7 @@ pub(crate) fn run_caps<S: Shelf, K: Sink>(
     requires top_least { 1 ≤ top }
     requires top_most { top ≤ 500 }
     ensures ends { IfSome (S.files shelf.old) (λ files. StopsAs (LineFile (files name.now) (λ line. Is Status.Done (caps_text line train top))) (S.faults shelf.old) (S.faults shelf.new) (K.written out.old) (K.written out.new) result) }
-    ensures causes { StopsBy ⊥ (name.now ∷ []) (S.files shelf.old) (S.faults shelf.old) (S.faults shelf.new) (K.faults out.old) (K.faults out.new) result }
+    ensures causes { StopsBy (Some (Form.Caps train top)) (name.now ∷ []) (S.files shelf.old) (S.faults shelf.old) (S.faults shelf.new) (K.faults out.old) (K.faults out.new) result }
 {
     let line = load_line(alloc, shelf, name)?;
     let limits = Limits::new(alloc, line.length(), train, top, line.limits(), &[])?;

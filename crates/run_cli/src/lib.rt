@@ -2,16 +2,18 @@
 //! output, and says how it ended.
 #![tactic(auto)]
 
-ghost use Rattle.std.specs.Prelude.{◌≡◌, ◌≤◌, ◌+◌, ◌⊎◌, None, Some, map, length, string_bytes, IfSome};
+ghost use Rattle.std.specs.Prelude.{◌≡◌, ◌≤◌, ◌<◌, ◌+◌, ◌⊎◌, None, Some, map, length, string_bytes, IfSome};
 ghost use Rattle.run_cli.specs.Answers.{Answers, AnswersBy};
 ghost use Rattle.run_cli.specs.Ends.{EndsAs, EndsWhole, HasCauses, IsQuiet};
 ghost use Rattle.run_cli.specs.Finishes.{FinishesAs};
 ghost use Rattle.run_cli.specs.Stops.{StopsAs, StopsBy};
-ghost use Rattle.run_cli.specs.Words.{IsForm, files_by, form_of, most_steps, named_files};
+ghost use Rattle.run_cli.specs.Files.{most_cells};
+ghost use Rattle.run_cli.specs.Words.{IsForm, files_by, form_of, most_steps, word};
 
 mod bands;
 mod brakes;
 mod caps;
+mod envelope;
 mod files;
 mod motion;
 mod rises;
@@ -21,6 +23,7 @@ mod words;
 use crate::bands::run_stock;
 use crate::brakes::run_brakes;
 use crate::caps::run_caps;
+use crate::envelope::run_envelope;
 use crate::rises::run_rise;
 use crate::words::{Form, read_form};
 pub use files::MOST_BYTES;
@@ -44,7 +47,7 @@ pub fn run<S: Shelf, I: Source, K: Sink, L: Ledger>(
     ensures causes { HasCauses (map string_bytes words.now) (S.files shelf.old) (S.faults shelf.old) (S.faults shelf.new) (K.faults out.old) (K.faults out.new) result }
     ensures complete { IsQuiet (S.faults shelf.old) (S.faults shelf.new) → IsQuiet (K.faults out.old) (K.faults out.new)
         → IfSome (S.files shelf.old) (λ files. (result ≡ Status.Memory) ⊎ EndsWhole (Answers (map string_bytes words.now) files) result (K.written out.old) (K.written out.new)) }
-    ensures steps { steps.new ≤ steps.old + most_steps (form_of (map string_bytes words.now)) }
+    ensures steps { steps.new ≤ steps.old + most_steps (form_of (map string_bytes words.now)) (most_cells (S.files shelf.old) (word (map string_bytes words.now) 1)) }
 {
     let stopped = run_words(words, alloc, shelf, out, steps);
     finish(out, stopped)
@@ -59,8 +62,8 @@ fn run_words<S: Shelf, K: Sink, L: Ledger>(
     steps: &mut Steps<L>,
 ) -> Result<(), Status>
     ensures ends { IfSome (S.files shelf.old) (λ files. StopsAs (Answers (map string_bytes words.now) files) (S.faults shelf.old) (S.faults shelf.new) (K.written out.old) (K.written out.new) result) }
-    ensures causes { StopsBy (form_of (map string_bytes words.now) ≡ None) (named_files (map string_bytes words.now)) (S.files shelf.old) (S.faults shelf.old) (S.faults shelf.new) (K.faults out.old) (K.faults out.new) result }
-    ensures steps { steps.new ≤ steps.old + most_steps (form_of (map string_bytes words.now)) }
+    ensures causes { StopsBy (form_of (map string_bytes words.now)) (files_by (form_of (map string_bytes words.now)) (map string_bytes words.now)) (S.files shelf.old) (S.faults shelf.old) (S.faults shelf.new) (K.faults out.old) (K.faults out.new) result }
+    ensures steps { steps.new ≤ steps.old + most_steps (form_of (map string_bytes words.now)) (most_cells (S.files shelf.old) (word (map string_bytes words.now) 1)) }
 {
     match read_form(words) {
         None => Err(Status::Usage),
@@ -79,21 +82,27 @@ fn run_form<S: Shelf, K: Sink, L: Ledger>(
 ) -> Result<(), Status>
     requires { IsForm (length words.now) form }
     ensures ends { IfSome (S.files shelf.old) (λ files. StopsAs (AnswersBy (Some form) (map string_bytes words.now) files) (S.faults shelf.old) (S.faults shelf.new) (K.written out.old) (K.written out.new) result) }
-    ensures causes { StopsBy ⊥ (files_by (Some form) (map string_bytes words.now)) (S.files shelf.old) (S.faults shelf.old) (S.faults shelf.new) (K.faults out.old) (K.faults out.new) result }
-    ensures steps { steps.new ≤ steps.old + most_steps (Some form) }
+    ensures causes { StopsBy (Some form) (files_by (Some form) (map string_bytes words.now)) (S.files shelf.old) (S.faults shelf.old) (S.faults shelf.new) (K.faults out.old) (K.faults out.new) result }
+    ensures steps { steps.new ≤ steps.old + most_steps (Some form) (most_cells (S.files shelf.old) (word (map string_bytes words.now) 1)) }
 {
     match form {
-        Form::Caps { train, top } => { run_caps(alloc, shelf, out, words[1].as_str(), train, top) }
-        Form::Bands => run_stock(alloc, shelf, out, words[1].as_str()),
+        Form::Caps { train, top } => run_caps(alloc, shelf, out, word(words, 1), train, top),
+        Form::Bands => run_stock(alloc, shelf, out, word(words, 1)),
         Form::Rise { kmh } => {
-            let (line, stock) = (words[1].as_str(), words[2].as_str());
+            let (line, stock) = (word(words, 1), word(words, 2));
             run_rise(alloc, shelf, out, line, stock, kmh, steps)
         }
-        Form::Brakes => {
-            let (line, stock) = (words[1].as_str(), words[2].as_str());
-            run_brakes(alloc, shelf, out, line, stock, steps)
-        }
+        Form::Brakes => run_brakes(alloc, shelf, out, word(words, 1), word(words, 2), steps),
+        Form::Envelope => run_envelope(alloc, shelf, out, word(words, 1), word(words, 2), steps),
     }
+}
+
+// The word at a place.
+fn word(words: &[String], place: usize) -> &str
+    requires { place < length words.now }
+    ensures { result.now ≡ word (map string_bytes words.now) place }
+{
+    words[place].as_str()
 }
 
 // Writes the text of the status at which a form stopped, and says how the run ends.

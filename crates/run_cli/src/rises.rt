@@ -1,6 +1,6 @@
 //! The form `rise`: what the step rule makes of a speed at each cell of a line.
 
-ghost use Rattle.std.specs.Prelude.{◌≡◌, ◌≤◌, ◌<◌, ◌+◌, ◌*◌, ◌++◌, ◌∷◌, [], min, OnOk, OnErr, IfOk, IfSome};
+ghost use Rattle.std.specs.Prelude.{◌≡◌, ◌≤◌, ◌<◌, ◌+◌, ◌*◌, ◌++◌, ◌∷◌, [], min, Some, OnOk, OnErr, IfOk, IfSome};
 ghost use Rattle.std.specs.Io.KnownBytes.{Appends};
 ghost use Rattle.run_io.specs.Causes.{HasCause};
 ghost use Rattle.run_io.specs.Pages.{Carries};
@@ -9,12 +9,15 @@ ghost use Rattle.run_io.specs.Writes.{AppendsFront};
 ghost use Rattle.run_rules.specs.Speeds.{squared};
 ghost use Rattle.step_rule.specs.Motion.{cells_of, most_of, step_rule_of};
 ghost use Rattle.run_cli.specs.Answers.{Is, LineFile, StockFile};
+ghost use Rattle.run_cli.specs.Files.{most_cells};
 ghost use Rattle.run_cli.specs.Stops.{StopsAs, StopsBy};
 ghost use Rattle.run_cli.specs.Texts.{rise_line, rise_text};
+ghost use Rattle.run_cli.specs.Words.{most_steps};
 
 use crate::Status;
-use crate::files::{load_line, load_stock};
+use crate::files::load_both;
 use crate::motion::rule_of;
+use crate::words::Form;
 use report_text::put_numbers;
 use run_io::{Failed, Page, Shelf, Sink};
 use run_rules::squared;
@@ -37,11 +40,10 @@ pub(crate) fn run_rise<S: Shelf, K: Sink, L: Ledger>(
 ) -> Result<(), Status>
     requires { kmh ≤ 500 }
     ensures ends { IfSome (S.files shelf.old) (λ files. StopsAs (LineFile (files line.now) (λ l. StockFile (files stock.now) (λ s. Is Status.Done (rise_text l s kmh)))) (S.faults shelf.old) (S.faults shelf.new) (K.written out.old) (K.written out.new) result) }
-    ensures causes { StopsBy ⊥ (line.now ∷ stock.now ∷ []) (S.files shelf.old) (S.faults shelf.old) (S.faults shelf.new) (K.faults out.old) (K.faults out.new) result }
-    ensures steps { steps.new ≤ steps.old + 1000000 }
+    ensures causes { StopsBy (Some (Form.Rise kmh)) (line.now ∷ stock.now ∷ []) (S.files shelf.old) (S.faults shelf.old) (S.faults shelf.new) (K.faults out.old) (K.faults out.new) result }
+    ensures steps { steps.new ≤ steps.old + most_steps (Some (Form.Rise kmh)) (most_cells (S.files shelf.old) line.now) }
 {
-    let line = load_line(alloc, shelf, line)?;
-    let stock = load_stock(alloc, shelf, stock)?;
+    let (line, stock) = load_both(alloc, shelf, line, stock)?;
     let before = squared(stock.top()).min(squared(kmh));
     let pulls = pulls(alloc, &line, stock.mass(), stock.length())?;
     let shown = copied(alloc, pulls.as_slice())?;

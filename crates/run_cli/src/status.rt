@@ -26,6 +26,9 @@ pub enum Status {
     /// A file breaks a rule: the file by its number, the place in it, and the least rule broken
     /// there.
     Refused { file: u32, place: u64, rule: u32 },
+    /// No train that can still keep the limits and stops ahead gets to the point; the text that
+    /// says so was written whole.
+    Stalled { point: u32 },
     /// A file, by its number, has too many bytes.
     TooLong { file: u32 },
 }
@@ -42,6 +45,7 @@ impl Status {
             Status::ReadFault => 3,
             Status::WriteFault => 4,
             Status::Refused { .. } => 5,
+            Status::Stalled { .. } => 6,
             Status::TooLong { .. } => 8,
         }
     }
@@ -52,7 +56,11 @@ impl Status {
         ensures { page.new ≡ status_text self.now }
     {
         match *self {
-            Status::Done | Status::Memory | Status::ReadFault | Status::WriteFault => {}
+            Status::Done
+            | Status::Memory
+            | Status::ReadFault
+            | Status::WriteFault
+            | Status::Stalled { .. } => {}
             Status::Usage => page.put(b"usage\n"),
             Status::Refused { file, place, rule } => {
                 page.put(b"refused ");

@@ -1,7 +1,7 @@
 //! The words of a command line, and the forms that they may have.
 
 ghost use Rattle.std.specs.Prelude.{◌≡◌, ◌≤◌, ◌<◌, IfSome, IsTrue, map, length, string_bytes};
-ghost use Rattle.run_cli.specs.Words.{IsForm, asks, caps_of, form_of, is_name, rise_at};
+ghost use Rattle.run_cli.specs.Words.{IsForm, asks, caps_of, form_of, is_name, names_two, rise_at};
 ghost use Rattle.unit_rules.specs.Numeral.{number_in};
 
 use unit_rules::number_in;
@@ -17,6 +17,8 @@ pub(crate) enum Form {
     Rise { kmh: u32 },
     // The braking list of a train on a line.
     Brakes,
+    // The fastest run of a train over a line.
+    Envelope,
 }
 
 // The form of the words, if they are one.
@@ -28,16 +30,12 @@ pub(crate) fn read_form(words: &[String]) -> Option<Form>
         read_caps(words[2].as_bytes(), words[3].as_bytes())
     } else if asks(words, "stock", 2) && is_name(words[1].as_bytes()) {
         Some(Form::Bands)
-    } else if asks(words, "rise", 4)
-        && is_name(words[1].as_bytes())
-        && is_name(words[2].as_bytes())
-    {
+    } else if asks(words, "rise", 4) && names_two(words) {
         read_rise(words[3].as_bytes())
-    } else if asks(words, "brakes", 3)
-        && is_name(words[1].as_bytes())
-        && is_name(words[2].as_bytes())
-    {
+    } else if asks(words, "brakes", 3) && names_two(words) {
         Some(Form::Brakes)
+    } else if asks(words, "envelope", 3) && names_two(words) {
+        Some(Form::Envelope)
     } else {
         None
     }
@@ -70,6 +68,14 @@ fn asks(words: &[String], name: &str, count: usize) -> bool
     ensures count { IsTrue result → length words.now ≡ count }
 {
     words.len() == count && words[0].as_str() == name
+}
+
+// Whether the words after the command's name may name two files.
+fn names_two(words: &[String]) -> bool
+    requires { 3 ≤ length words.now }
+    ensures { result ≡ names_two (map string_bytes words.now) }
+{
+    is_name(words[1].as_bytes()) && is_name(words[2].as_bytes())
 }
 
 // Whether a word may name a file: it doesn't begin with a dash.

@@ -1,0 +1,118 @@
+//! The form `envelope`: the fastest run of a train over a line, or the point at which it is stalled.
+
+ghost use Rattle.std.specs.Prelude.{◌≡◌, ◌≤◌, ◌+◌, ◌*◌, ◌∷◌, [], Some, OnOk, OnErr, IfOk, IfSome};
+ghost use Rattle.std.specs.Io.KnownBytes.{Appends};
+ghost use Rattle.limit_profile.specs.Profile.{caps};
+ghost use Rattle.run_io.specs.Causes.{HasCause};
+ghost use Rattle.run_io.specs.Writes.{AppendsFront};
+ghost use Rattle.run_rules.specs.Runs.{IsBrakingList, ReachesAs};
+ghost use Rattle.step_rule.specs.Motion.{cells_of, kmh_of, step_rule_of};
+ghost use Rattle.run_cli.specs.Answers.{IsEnvelope, LineFile, StockFile};
+ghost use Rattle.run_cli.specs.Files.{most_cells};
+ghost use Rattle.run_cli.specs.Stops.{StopsAs, StopsBy, stopped_by};
+ghost use Rattle.run_cli.specs.Texts.{envelope_text, train_caps, train_rule};
+ghost use Rattle.run_cli.specs.Words.{most_steps};
+
+use crate::Status;
+use crate::files::load_both;
+use crate::motion::{braking_list, rule_on, standing_limits};
+use crate::words::Form;
+use effort_run::walk_on;
+use limit_profile::Limits;
+use line_tables::Line;
+use report_text::{write_list, write_reach};
+use run_io::{Failed, Shelf, Sink};
+use std::alloc::Global;
+use std::sync::ledger::Ledger;
+use step_rule::Rule;
+use stock_tables::Stock;
+use unit_rules::{Memory, Reach, Steps};
+
+// How far a train gets, and its greatest squared speeds by point up to there.
+#[derive(Drop)]
+struct Envelope {
+    reach: Reach,
+    speeds: Vec<u32>,
+}
+
+// Writes the fastest run of the stock over the line, where it stands at both ends, or its stall.
+pub(crate) fn run_envelope<S: Shelf, K: Sink, L: Ledger>(
+    alloc: Global,
+    shelf: &mut S,
+    out: &mut K,
+    line: &str,
+    stock: &str,
+    steps: &mut Steps<L>,
+) -> Result<(), Status>
+    ensures ends { IfSome (S.files shelf.old) (λ files. StopsAs (LineFile (files line.now) (λ l. StockFile (files stock.now) (λ s. IsEnvelope l s))) (S.faults shelf.old) (S.faults shelf.new) (K.written out.old) (K.written out.new) result) }
+    ensures causes { StopsBy (Some Form.Envelope) (line.now ∷ stock.now ∷ []) (S.files shelf.old) (S.faults shelf.old) (S.faults shelf.new) (K.faults out.old) (K.faults out.new) result }
+    ensures steps { steps.new ≤ steps.old + most_steps (Some Form.Envelope) (most_cells (S.files shelf.old) line.now) }
+{
+    let (line, stock) = load_both(alloc, shelf, line, stock)?;
+    let envelope = standing_envelope(alloc, &line, stock, steps)?;
+    write_envelope(out, &envelope)?;
+    stopped_by(envelope.reach)
+}
+
+// The envelope of a stock on a line, where it stands at both ends.
+fn standing_envelope<L: Ledger>(
+    alloc: Global,
+    line: &Line,
+    stock: Stock,
+    steps: &mut Steps<L>,
+) -> Result<Envelope, Memory>
+    ensures envelope { IfOk result (λ envelope. ReachesAs (train_rule line.now stock) (train_caps line.now stock) envelope.speeds.items envelope.reach) }
+    ensures steps { steps.new ≤ steps.old + (33 * (line.now.length + 1) + line.now.length) }
+{
+    let limits = standing_limits(alloc, line, &stock)?;
+    let rule = rule_on(alloc, line, stock)?;
+    let brakes = braking_list(alloc, &rule, &limits, steps)?;
+    envelope_under(alloc, &rule, &limits, &brakes, steps)
+}
+
+// The envelope under a rule and limits, of which these are the brakes.
+fn envelope_under<L: Ledger>(
+    alloc: Global,
+    rule: &Rule,
+    limits: &Limits,
+    brakes: &[u32],
+    steps: &mut Steps<L>,
+) -> Result<Envelope, Memory>
+    requires same_length { limits.now.length ≡ cells_of rule.now }
+    requires same_top { limits.now.top ≡ kmh_of rule.now }
+    requires brakes { IsBrakingList (step_rule_of rule.now) (caps limits.now) brakes.now }
+    ensures envelope { IfOk result (λ envelope. ReachesAs (step_rule_of rule.now) (caps limits.now) envelope.speeds.items envelope.reach) }
+    ensures steps { steps.new ≤ steps.old + cells_of rule.now }
+{
+    let cells = rule.cells();
+    let Ok(mut speeds) = Vec::from_elem(alloc, 0, cells as usize + 1) else {
+        return Err(Memory);
+    };
+    let walk = walk_on(rule, brakes, 0, cells, &mut speeds, 0, steps);
+    Ok(Envelope {
+        reach: walk.reach,
+        speeds,
+    })
+}
+
+// Writes the squared speeds by point of a train that gets over the line, or how far it gets.
+fn write_envelope<K: Sink>(out: &mut K, envelope: &Envelope) -> Result<(), Failed>
+    ensures ok { OnOk result (Appends (K.written out.old) (K.written out.new) (envelope_text envelope.now.speeds.items envelope.now.reach)) }
+    ensures failed { OnErr result (AppendsFront (K.written out.old) (K.written out.new) (envelope_text envelope.now.speeds.items envelope.now.reach)) }
+    ensures cause { HasCause (K.faults out.old) (K.faults out.new) result }
+{
+    match envelope.reach {
+        Reach::Whole => write_list(out, envelope.speeds.as_slice()),
+        Reach::Stalled { .. } => write_reach(out, envelope.reach),
+    }
+}
+
+// How a form ends that has written how far its train gets.
+fn stopped_by(reach: Reach) -> Result<(), Status>
+    ensures { result ≡ stopped_by reach }
+{
+    match reach {
+        Reach::Whole => Ok(()),
+        Reach::Stalled { k } => Err(Status::Stalled { point: k }),
+    }
+}
