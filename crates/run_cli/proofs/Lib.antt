@@ -3,3 +3,4 @@ pub mod LoadFacts
 pub mod RiseFacts
 pub mod BrakeFacts
 pub mod EnvelopeFacts
+pub mod OnceFacts

@@ -85,3 +85,12 @@ AnswersBy (Some Bands) words files s t = StockFile (files (word words 1)) (λ st
 -- what answers these words over these files
 abbrev pub Answers : List (List ℕ) → (List ℕ → Option (List ℕ)) → Status → List ℕ → Type 0
 Answers words files s t = AnswersBy (form_of words) words files s t
+
+-- two answers are one: their status, and their text
+pub record IsOneAnswer (s r : Status) (t u : List ℕ) : Type 0 where
+  pub one_status : s ≡ r
+  pub one_text : t ≡ u
+
+-- no words over any files have two answers
+abbrev pub AnswersOnce : Type 0
+AnswersOnce = (words : List (List ℕ)) (files : List ℕ → Option (List ℕ)) (s r : Status) (t u : List ℕ) → Answers words files s t → Answers words files r u → IsOneAnswer s r t u

@@ -3,7 +3,7 @@
 #![tactic(auto)]
 
 ghost use Rattle.std.specs.Prelude.{◌≡◌, ◌≤◌, ◌<◌, ◌+◌, ◌⊎◌, None, Some, map, length, string_bytes, IfSome};
-ghost use Rattle.run_cli.specs.Answers.{Answers, AnswersBy};
+ghost use Rattle.run_cli.specs.Answers.{Answers, AnswersBy, AnswersOnce};
 ghost use Rattle.run_cli.specs.Ends.{EndsAs, EndsWhole, HasCauses, IsQuiet};
 ghost use Rattle.run_cli.specs.Finishes.{FinishesAs};
 ghost use Rattle.run_cli.specs.Stops.{StopsAs, StopsBy};
@@ -52,6 +52,12 @@ pub fn run<S: Shelf, I: Source, K: Sink, L: Ledger>(
     let stopped = run_words(words, alloc, shelf, out, steps);
     finish(out, stopped)
 }
+
+/// The law of answers that follows from the definitions alone: no words over any files have two. So a
+/// run that ends with its whole text ends with the one status and the one text that there can be.
+pub fn laws_of_answers()
+    ensures once { AnswersOnce }
+{}
 
 // Runs the words, and stops with the status of what is in their way.
 fn run_words<S: Shelf, K: Sink, L: Ledger>(

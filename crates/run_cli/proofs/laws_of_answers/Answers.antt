@@ -1,0 +1,5 @@
+use Rattle.run_cli.proofs.OnceFacts.{answers_once}
+use Rattle.run_cli.proofs.laws_of_answers.Goals as goal
+
+pub returns : goal.returns
+returns c = record { once = answers_once }
