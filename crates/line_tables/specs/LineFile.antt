@@ -36,6 +36,10 @@ line_by _ r = None
 abbrev pub line_of : Record → Option (List ℕ × ℕ)
 line_of r = line_by (kind_of (field r 0)) r
 
+-- the place on any line, in metres, that a text is the numeral of
+abbrev pub place_of : List ℕ → Option ℕ
+place_of text = number_in 0 500000 text
+
 -- the number of tenths of a per mille that a text is the numeral of
 abbrev pub tenths_of : List ℕ → Option ℤ
 tenths_of text = signed_in (neg_ℤ (pos 1000)) (pos 1000) text
@@ -49,7 +53,7 @@ slope_from None b t = None
 
 -- the slope that a record gives, where it is a `gradient` record
 abbrev pub slope_by : Option Kind → Record → Option Slope
-slope_by (Some Gradient) r = slope_from (number_in 0 500000 (field r 1)) (number_in 0 500000 (field r 2)) (tenths_of (field r 3))
+slope_by (Some Gradient) r = slope_from (place_of (field r 1)) (place_of (field r 2)) (tenths_of (field r 3))
 slope_by _ r = None
 
 -- the slope that a record gives, by its first field
@@ -65,7 +69,7 @@ zone_from None b w = None
 
 -- the zone that a record gives, where it is a `limit` record
 abbrev pub zone_by : Option Kind → Record → Option Zone
-zone_by (Some Limit) r = zone_from (number_in 0 500000 (field r 1)) (number_in 0 500000 (field r 2)) (number_in 1 500 (field r 3))
+zone_by (Some Limit) r = zone_from (place_of (field r 1)) (place_of (field r 2)) (number_in 1 500 (field r 3))
 zone_by _ r = None
 
 -- the zone that a record gives, by its first field
@@ -74,7 +78,7 @@ zone_of r = zone_by (kind_of (field r 0)) r
 
 -- the name and the position that a record gives, where it is a `point` record
 abbrev pub point_by : Option Kind → Record → Option (List ℕ × ℕ)
-point_by (Some Point) r = option_map (λ n. (field r 2, n)) (number_in 0 500000 (field r 1))
+point_by (Some Point) r = option_map (λ n. (field r 2, n)) (place_of (field r 1))
 point_by _ r = None
 
 -- the name and the position that a record gives, by its first field
@@ -115,11 +119,19 @@ is_numeral text = is_some (whole_of text)
 abbrev pub is_in : ℕ → ℕ → List ℕ → Bool
 is_in low high text = is_some (number_in low high text)
 
+-- whether a text is the numeral of a place on the line
+abbrev pub is_on : DraftTable → List ℕ → Bool
+is_on d text = is_in 0 (last_place d) text
+
 -- whether the first number is there and below the second
 abbrev pub is_ordered : Option ℕ → Option ℕ → Bool
 is_ordered (Some a) (Some b) = nat_lt a b
 is_ordered (Some a) None = false
 is_ordered None b = false
+
+-- whether the two ends that a record gives are in order
+abbrev pub are_ordered : Record → Bool
+are_ordered r = is_ordered (place_of (field r 1)) (place_of (field r 2))
 
 -- whether the number is there and not below that one
 abbrev pub is_from : ℕ → Option ℕ → Bool
@@ -141,17 +153,18 @@ abbrev pub gradient_rule : DraftTable → Record → Option ℕ
 gradient_rule d r =
     if not (length r == 4) then Some 2
     else if not (is_numeral (field r 1) && is_numeral (field r 2) && is_numeral (field r 3)) then Some 3
-    else if not (is_in 0 (last_place d) (field r 1) && is_in 0 (last_place d) (field r 2) && is_some (tenths_of (field r 3))) then Some 4
-    else if not (is_some d.line && (is_ordered (number_in 0 500000 (field r 1)) (number_in 0 500000 (field r 2)) && is_from (slopes_end d) (number_in 0 500000 (field r 1)))) then Some 5
+    else if not (is_on d (field r 1) && is_on d (field r 2) && is_some (tenths_of (field r 3))) then Some 4
+    else if not (is_some d.line && (are_ordered r && is_from (slopes_end d) (place_of (field r 1)))) then Some 5
     else None
 
--- the least rule that a `limit` record breaks: 2 its fields, 3 numerals, 4 the ranges, 5 no `line` before it or the order of its ends
+-- the least rule that a `limit` record breaks: 2 its fields, 3 numerals, 4 the ranges, 5 no `line` before it or the
+-- order of its ends
 abbrev pub limit_rule : DraftTable → Record → Option ℕ
 limit_rule d r =
     if not (length r == 4) then Some 2
     else if not (is_numeral (field r 1) && is_numeral (field r 2) && is_numeral (field r 3)) then Some 3
-    else if not (is_in 0 (last_place d) (field r 1) && is_in 0 (last_place d) (field r 2) && is_in 1 500 (field r 3)) then Some 4
-    else if not (is_some d.line && is_ordered (number_in 0 500000 (field r 1)) (number_in 0 500000 (field r 2))) then Some 5
+    else if not (is_on d (field r 1) && is_on d (field r 2) && is_in 1 500 (field r 3)) then Some 4
+    else if not (is_some d.line && are_ordered r) then Some 5
     else None
 
 -- the least rule that a `point` record breaks: 2 its fields, 3 a numeral and a name, 4 the range, 5 no `line` before it,
@@ -160,7 +173,7 @@ abbrev pub point_rule : DraftTable → Record → Option ℕ
 point_rule d r =
     if not (length r == 3) then Some 2
     else if not (is_numeral (field r 1) && is_name (field r 2)) then Some 3
-    else if not (is_in 0 (last_place d) (field r 1)) then Some 4
+    else if not (is_on d (field r 1)) then Some 4
     else if not (is_some d.line) then Some 5
     else if is_some (find_point (field r 2) d.points) then Some 6
     else None

@@ -12,7 +12,8 @@ reach_of points n = if nat_lt n points then Stalled n else Whole
 -- under the caps x there is a run, and no stall; or the train is stalled at k and nowhere else, and there is no run
 abbrev pub IsOnlyReach : StepRule → List ℕ → Reach → Type 0
 IsOnlyReach rule x Whole = ((q : List ℕ) × IsRun rule x q) × ((k : ℕ) → IsStalled rule x k → ⊥)
-IsOnlyReach rule x (Stalled k) = IsStalled rule x k × ((j : ℕ) → IsStalled rule x j → j ≡ k) × ((q : List ℕ) → IsRun rule x q → ⊥)
+IsOnlyReach rule x (Stalled k) =
+    IsStalled rule x k × ((j : ℕ) → IsStalled rule x j → j ≡ k) × ((q : List ℕ) → IsRun rule x q → ⊥)
 
 -- e has a number for each of the caps c, which are their own braking list and at most top, and its first n numbers are
 -- the envelope under them
@@ -33,12 +34,14 @@ AgreeAt d n e m i = known_at d n i ≡ known_at e m i
 
 -- where caps agree outside from..=to, their envelopes agree before `from`
 abbrev pub EnvelopesAgreeBefore : Type 0
-EnvelopesAgreeBefore = (rule : StepRule) (cells top from to : ℕ) (b c d e : List ℕ) (n m : ℕ) → IsMonotone rule cells top → length c ≡ cells + 1
+EnvelopesAgreeBefore = (rule : StepRule) (cells top from to : ℕ) (b c d e : List ℕ) (n m : ℕ)
+    → IsMonotone rule cells top → length c ≡ cells + 1
     → AgreeOutside b c from to → HoldsEnvelope rule top b d n → HoldsEnvelope rule top c e m
     → (i : ℕ) → i < from → AgreeAt d n e m i
 
 -- and where their envelopes agree at a point from `to` on, they agree at every later point
 abbrev pub EnvelopesAgreeAfter : Type 0
-EnvelopesAgreeAfter = (rule : StepRule) (cells top from to : ℕ) (b c d e : List ℕ) (n m : ℕ) → IsMonotone rule cells top → length c ≡ cells + 1
+EnvelopesAgreeAfter = (rule : StepRule) (cells top from to : ℕ) (b c d e : List ℕ) (n m : ℕ)
+    → IsMonotone rule cells top → length c ≡ cells + 1
     → AgreeOutside b c from to → HoldsEnvelope rule top b d n → HoldsEnvelope rule top c e m
     → (i j : ℕ) → to ≤ i → i ≤ j → AgreeAt d n e m i → AgreeAt d n e m j

@@ -7,9 +7,11 @@ pub record IsGreaterOf (q r m : List ℕ) (points : ℕ) : Type 0 where
   pub same_points : length m ≡ points
   pub greater : (i : ℕ) → i < points → slice_index m i ≡ max (slice_index q i) (slice_index r i)
 
--- the greater of two lists that keep the rule up to a point keeps it too; so where there is one such list there is a greatest
+-- the greater of two lists that keep the rule up to a point keeps it too; so where there is one such list there is a
+-- greatest
 abbrev pub GreaterKeeps : Type 0
-GreaterKeeps = (rule : StepRule) (x q r m : List ℕ) (k top : ℕ) → IsMonotone rule (length x - 1) top → ((i : ℕ) → i < length x → slice_index x i ≤ top)
+GreaterKeeps = (rule : StepRule) (x q r m : List ℕ) (k top : ℕ)
+    → IsMonotone rule (length x - 1) top → ((i : ℕ) → i < length x → slice_index x i ≤ top)
     → k < length x → Keeps rule x q k → Keeps rule x r k → IsGreaterOf q r m (length x) → Keeps rule x m k
 
 -- a train is stalled at one point at most, and where there is a run at none
@@ -21,7 +23,8 @@ RunsOrStalls = (rule : StepRule) (x q : List ℕ) (k : ℕ) → IsRun rule x q �
 
 -- a train that stands at every point brakes by the rule, so there is a list that does
 abbrev pub StandingBrakes : Type 0
-StandingBrakes = (rule : StepRule) (x : List ℕ) (top : ℕ) → IsMonotone rule (length x - 1) top → Keeps rule x (replicate (length x) 0) 0
+StandingBrakes = (rule : StepRule) (x : List ℕ) (top : ℕ)
+    → IsMonotone rule (length x - 1) top → Keeps rule x (replicate (length x) 0) 0
 
 -- x and y are of one length, and differ at from..=to alone
 pub record DifferWithin (x y : List ℕ) (from to : ℕ) : Type 0 where
@@ -30,10 +33,13 @@ pub record DifferWithin (x y : List ℕ) (from to : ℕ) : Type 0 where
 
 -- where the caps x and y differ at from..=to alone, their braking lists agree past `to`
 abbrev pub BrakesAlikePast : Type 0
-BrakesAlikePast = (rule : StepRule) (x y c d : List ℕ) (from to i : ℕ) → DifferWithin x y from to → IsBrakingList rule x c → IsBrakingList rule y d
+BrakesAlikePast = (rule : StepRule) (x y c d : List ℕ) (from to i : ℕ)
+    → DifferWithin x y from to → IsBrakingList rule x c → IsBrakingList rule y d
     → to < i → i < length x → slice_index c i ≡ slice_index d i
 
 -- and if they agree at a point below `from`, they agree at every lower point
 abbrev pub BrakesAlikeBelow : Type 0
-BrakesAlikeBelow = (rule : StepRule) (x y c d : List ℕ) (from to i j : ℕ) → DifferWithin x y from to → IsBrakingList rule x c → IsBrakingList rule y d
-    → j < from → j < length x → slice_index c j ≡ slice_index d j → i ≤ j → slice_index c i ≡ slice_index d i
+BrakesAlikeBelow = (rule : StepRule) (x y c d : List ℕ) (from to i j : ℕ)
+    → DifferWithin x y from to → IsBrakingList rule x c → IsBrakingList rule y d
+    → j < from → j < length x → slice_index c j ≡ slice_index d j
+    → i ≤ j → slice_index c i ≡ slice_index d i

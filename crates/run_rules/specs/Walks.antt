@@ -26,7 +26,8 @@ pub record IsNextNumber (rule : StepRule) (c e : List ℕ) (i w : ℕ) : Type 0 
 
 -- there is no such number: each that the caps and full effort allow would be a second standstill
 abbrev pub IsBlockedAfter : StepRule → List ℕ → List ℕ → ℕ → Type 0
-IsBlockedAfter rule c e i = (u : ℕ) → u ≤ slice_index c (i + 1) → pos u ≤ℤ rule.up i (slice_index e i) → u + slice_index e i < 1
+IsBlockedAfter rule c e i =
+    (u : ℕ) → u ≤ slice_index c (i + 1) → pos u ≤ℤ rule.up i (slice_index e i) → u + slice_index e i < 1
 
 -- the first n numbers of e are driven as fast as the caps c allow, to the end of the line or to where there is no next
 pub record EndsAt (rule : StepRule) (c e : List ℕ) (n : ℕ) : Type 0 where

@@ -1,16 +1,16 @@
 -- Where full brakes end a cell, and from where they end it at some squared speed.
-use Rattle.std.proofs.Common.{◌≡◌, ℕ, ◌+◌, ◌-◌, ◌*◌, ◌/◌, ◌<◌, ◌≤◌, ℤ, pos, ◌≤ℤ◌, ◌<ℤ◌, ◌+ℤ◌, ◌-ℤ◌, ◌*ℤ◌, List, arith, ap, mul-le-mul, mul-le-mul_right, mod-lt, div-add-mod', unsigned_abs, inl, inr, refl}
+use Rattle.std.proofs.Common.{◌≡◌, ℕ, ◌+◌, ◌-◌, ◌*◌, ◌/◌, ◌<◌, ◌≤◌, ℤ, pos, ◌≤ℤ◌, ◌<ℤ◌, ◌+ℤ◌, ◌-ℤ◌, ◌*ℤ◌, List, arith, ap, mul-le-mul, mul-le-mul_right, mod-lt, div-add-mod', unsigned_abs, inl, inr, refl, subst, sym}
 use Rattle.std.proofs.lemmas.Int.{ints, by_lt_z}
 use Rattle.std.proofs.lemmas.Bool.{cases_lt}
 use borrow.Author.Differences.{up, down, product_is}
 use Rattle.unit_rules.specs.Quotients.{floor_div}
 use Rattle.unit_rules.proofs.FloorFacts.{floor_div-at_most, floor_div-floor, floor_div-product}
-use Rattle.run_rules.specs.Grids.{row, band_width}
+use Rattle.run_rules.specs.Grids.{row, top_of, band_width}
 use Rattle.run_rules.specs.Speeds.{squared}
 use Rattle.run_rules.specs.Steps.{fall_from}
-use Rattle.run_rules.proofs.GridFacts.{value_at-band, value_at-squared}
+use Rattle.run_rules.proofs.GridFacts.{value_at-band, value_at-least, value_at-squared}
 use Rattle.run_rules.proofs.SpeedFacts.{band_width-some, squared-mono, squared-next}
-use Rattle.step_rule.specs.Motion.{IsMotion, Motion, kmh_of}
+use Rattle.step_rule.specs.Motion.{IsMotion, Motion, kmh_of, most_of}
 use Rattle.step_rule.specs.Spans.{IsBrakedFrom}
 
 -- a quotient of what is less than j widths by `rise` for each of j
@@ -52,13 +52,19 @@ band_width-is : (k : ℕ) → band_width k ≡ 10000 * (2 * k + 1)
 unfolding band_width
 band_width-is k = refl
 
+-- brakes that slow by at least so much at each whole km/h do so at every squared speed
+pub fall_from-slowed : (brake : List ℤ) (least : ℤ) (u : ℕ) → u ≤ squared (top_of brake) → ((k : ℕ) → k ≤ top_of brake → least ≤ℤ row brake k) → fall_from brake u ≤ℤ (pos u -ℤ least)
+unfolding fall_from
+fall_from-slowed brake least u h each = let slows = value_at-least brake least u h each in omega (arith, ints)
+
 -- brakes always slow
-pub fall_from-below : (motion : Motion) (k w : ℕ) → IsMotion motion → k ≤ kmh_of motion → squared k ≤ w → fall_from motion.brake.rows (squared k) ≤ℤ pos w
-fall_from-below motion k w m h s =
-    let tops = m.tops in
-    let brakes = m.brakes k (omega arith) in
-    let e = fall_from-squared motion.brake.rows k in
+pub fall_from-le : (motion : Motion) → IsMotion motion → (u : ℕ) → u ≤ most_of motion → fall_from motion.brake.rows u ≤ℤ pos u
+fall_from-le motion m u h =
+    let slows = fall_from-slowed motion.brake.rows (pos 12960) u (subst (λ k. u ≤ squared k) (sym m.tops) h) m.brakes in
     omega (arith, ints)
+
+pub fall_from-below : (motion : Motion) (k w : ℕ) → IsMotion motion → k ≤ kmh_of motion → squared k ≤ w → fall_from motion.brake.rows (squared k) ≤ℤ pos w
+fall_from-below motion k w m h s = let falls = fall_from-le motion m (squared k) (squared-mono k (kmh_of motion) h) in omega (arith, ints)
 
 -- a root rounded down, or less, has no greater square
 pub squared-root : (w root k : ℕ) → root * root ≤ w / 10000 → k ≤ root → squared k ≤ w

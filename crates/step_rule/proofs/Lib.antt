@@ -1,4 +1,3 @@
 pub mod BrakeFacts
 pub mod MonotoneFacts
 pub mod SpanFacts
-pub mod ToyFacts

@@ -72,18 +72,15 @@ not_rising rows n some within falls =
       | inr not ↦ sym not
     ]
 
-both : (a b : Bool) → (a && b) ≡ true → (a ≡ true) × (b ≡ true)
-both a b e = and_parts a b e
-
 -- rows in order are a curve up to the top speed
 pub IsCurveTo-ordered : (top : ℕ) (rows : List Row) → are_in_order top rows ≡ true → All IsRow rows → IsCurveTo top rows
 IsCurveTo-ordered top rows e ranges =
     let enough = nat_le 2 (length rows) in
     let first = (get_or (speeds rows) 0 0 == 0) in
     let last = (get_or (speeds rows) (length rows - 1) 0 == top) in
-    let rise = both (enough && first && last) (is_rising (speeds rows)) e in
-    let ends = both (enough && first) last rise.0 in
-    let some = both enough first ends.0 in
+    let rise = and_parts (enough && first && last) (is_rising (speeds rows)) e in
+    let ends = and_parts (enough && first) last rise.0 in
+    let some = and_parts enough first ends.0 in
     record {
       curve = record {
         some = grind (arith, nat_tests, some);

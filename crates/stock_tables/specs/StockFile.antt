@@ -1,12 +1,12 @@
 -- What a stock file says: its document, the values of its keys, and the tables of push and braking under their laws.
-use Rattle.std.specs.Prelude.{ℕ, ◌+◌, ◌*◌, Bool, not, if◌then◌else◌, List, codes, Option, Some, None, Result, Ok, Err, ℤ, pos, ◌+ℤ◌, int_le}
+use Rattle.std.specs.Prelude.{ℕ, not, if◌then◌else◌, List, codes, Option, Some, None, Result, Ok, Err, ℤ}
 use Rattle.std.specs.List.{find, range_with_len}
 use Rattle.std.specs.Option.{ok_or}
 use Rattle.std.specs.Str.{is_utf8}
 use Rattle.toml.specs.Data.{Members, get_member}
 use Rattle.toml.specs.Parse.{parse_document}
-use Rattle.run_rules.specs.Grids.{row, top_of, band_width}
-use Rattle.table_laws.specs.Laws.{Table}
+use Rattle.run_rules.specs.Grids.{top_of}
+use Rattle.table_laws.specs.Laws.{Table, keeps_law_at}
 use Rattle.table_laws.specs.declared.Law.{Law}
 use Rattle.table_laws.specs.declared.Law.TheVariants.{Drop, Climb}
 use Rattle.stock_tables.specs.declared.StockFault.{StockFault}
@@ -41,25 +41,29 @@ keys_of document = do
   brake ← at_key 7 (rows_in 50 3000 top (get_member (codes "brake") document))
   Ok (record { mass = mass; rotating = rotating; length = length; top = top; effort = effort; resistance = resistance; brake = brake })
 
--- whether values keep a law from k km/h to the next
-abbrev pub keeps_law : Law → List ℤ → ℕ → Bool
-keeps_law (Drop per) rows k = int_le (row rows k) (row rows (k + 1) +ℤ pos (per * band_width k))
-keeps_law Climb rows k = int_le (row rows (k + 1)) (row rows k +ℤ pos (band_width k))
-
 -- the table of the key with that number, or the least speed from which its values break the law
 abbrev pub table_by : ℕ → Table → Option ℕ → Result Table StockFault
 table_by number table None = Ok table
 table_by number table (Some k) = Err (fault.Law number k)
 
 abbrev pub table_of : ℕ → Law → List ℤ → Result Table StockFault
-table_of number law rows = table_by number (record { rows = rows; law = law }) (find (λ k. not (keeps_law law rows k)) (range_with_len 0 (top_of rows)))
+table_of number law rows =
+    table_by number (record { rows = rows; law = law })
+    (find (λ k. not (keeps_law_at law rows k)) (range_with_len 0 (top_of rows)))
 
 -- the stock that the values of the keys describe
 abbrev pub stock_of : Keys → Result StockTable StockFault
 stock_of keys = do
   push ← table_of 5 (Drop (moved_mass keys.mass keys.rotating)) (push_rows keys.top keys.effort keys.resistance)
   brake ← table_of 7 Climb (brake_rows keys.top keys.brake)
-  Ok (record { mass = keys.mass; moved_mass = moved_mass keys.mass keys.rotating; length = keys.length; top = keys.top; push = push; brake = brake })
+  Ok (record {
+    mass = keys.mass;
+    moved_mass = moved_mass keys.mass keys.rotating;
+    length = keys.length;
+    top = keys.top;
+    push = push;
+    brake = brake;
+  })
 
 -- what a file reads as: its stock, or its first fault
 abbrev pub reading_of : List ℕ → Result StockTable StockFault

@@ -19,6 +19,7 @@ part_climbs z part all m h = omega (arith, ints)
 
 -- within a band a value moves by no more than the law allows
 value_at-moves : (law : Law) (rows : List ℤ) (k part : ℕ) → part < band_width k → KeepsLawAt law rows k → MovesWithin law 1 (value_at rows (squared k + part)) (value_at rows (squared k + (part + 1)))
+unfolding MovesWithin
 value_at-moves (Drop per) rows k part h l =
     let here = value_at-band rows k part (omega arith) in
     let next = value_at-band rows k (part + 1) (omega arith) in

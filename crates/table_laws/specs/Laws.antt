@@ -1,19 +1,32 @@
 -- How fast the values of a table may change from one speed to the next.
-use Rattle.std.specs.Prelude.{ℕ, ◌*◌, ◌+◌, ◌^◌, ◌≤◌, ◌<◌, ℤ, pos, neg_ℤ, ◌+ℤ◌, ◌≤ℤ◌, List, length}
+use Rattle.std.specs.Prelude.{ℕ, ◌*◌, ◌+◌, ◌^◌, ◌≤◌, ◌<◌, Bool, ℤ, pos, neg_ℤ, ◌-ℤ◌, ◌≤ℤ◌, int_le, List, length}
 use Rattle.run_rules.specs.Grids.{row, top_of, band_width}
 use Rattle.table_laws.specs.declared.Law.{Law}
 use Rattle.table_laws.specs.declared.Law.TheVariants.{Drop, Climb}
 use Rattle.table_laws.specs.declared.LawFault.{LawFault}
 use Rattle.table_laws.specs.declared.LawFault.TheVariants.{Broken}
 
--- over that many squared speeds a value drops by at most `per` for each, or climbs by at most 1 for each
-abbrev pub MovesWithin : Law → ℕ → ℤ → ℤ → Type 0
-MovesWithin (Drop per) count here there = here ≤ℤ (there +ℤ pos (per * count))
-MovesWithin Climb count here there = there ≤ℤ (here +ℤ pos count)
+-- how far a value moves the way that the law bounds: how far it drops, or how far it climbs
+abbrev pub bounded_move : Law → ℤ → ℤ → ℤ
+bounded_move (Drop per) here there = here -ℤ there
+bounded_move Climb here there = there -ℤ here
+
+-- how far it may move that way over so many squared speeds: by `per` for each, or by 1 for each
+abbrev pub room : Law → ℕ → ℕ
+room (Drop per) count = per * count
+room Climb count = count
+
+-- over so many squared speeds a value moves by at most that
+unfoldable pub MovesWithin : Law → ℕ → ℤ → ℤ → Type 0
+MovesWithin law count here there = bounded_move law here there ≤ℤ pos (room law count)
 
 -- the values keep the law from k km/h to the next
 abbrev pub KeepsLawAt : Law → List ℤ → ℕ → Type 0
 KeepsLawAt law rows k = MovesWithin law (band_width k) (row rows k) (row rows (k + 1))
+
+-- whether they do
+abbrev pub keeps_law_at : Law → List ℤ → ℕ → Bool
+keeps_law_at law rows k = int_le (bounded_move law (row rows k) (row rows (k + 1))) (pos (room law (band_width k)))
 
 -- they keep it up to the top speed
 abbrev pub KeepsLaw : Law → List ℤ → Type 0

@@ -1,14 +1,13 @@
 -- Gradients by the slopes that are still ahead, and their sums.
-use Rattle.std.proofs.Common.{◌≡◌, ◌≤◌, ◌<◌, ◌+◌, ◌-◌, ◌*◌, ℕ, zero, suc, List, [], ◌∷◌, length, drop, get_or, All, Some, ℤ, pos, neg_ℤ, ◌≤ℤ◌, ◌+ℤ◌, ◌-ℤ◌, true, false, Bool, cond, nat_le, nat_lt, ◌&&◌, refl, arith, add-zero, inl, inr}
+use Rattle.std.proofs.Common.{◌≡◌, ◌≤◌, ◌<◌, ◌+◌, ◌-◌, ◌*◌, ℕ, zero, suc, List, [], ◌∷◌, All, Some, ℤ, pos, neg_ℤ, ◌≤ℤ◌, ◌+ℤ◌, ◌-ℤ◌, true, false, cond, nat_le, nat_lt, ◌&&◌, refl, arith, add-zero, inl, inr}
 use Rattle.std.proofs.lemmas.Int.{ints}
 use Rattle.std.proofs.lemmas.Bool.{cases_lt}
 use Rattle.std.proofs.lemmas.List.Elements.{All-head, All-tail}
 use Rattle.std.specs.Prelude.{slice_get}
 use Rattle.std.proofs.lemmas.Bool.Decides.{nat_tests}
-use Rattle.line_tables.specs.Slope.{Follows}
 use Rattle.line_tables.specs.declared.table.Slope.{Slope}
 use Rattle.train_mean.specs.Gradients.{gradient_at, sum_from}
-use Rattle.train_mean.specs.Windows.{AreSlopes, IsAhead, IsSlope, TellsFrom}
+use Rattle.train_mean.specs.Windows.{AreSlopes, IsAhead}
 
 -- past the end of the first slope the rest tells the gradients
 pub gradient_at-passed : (s : Slope) (rest : List Slope) (c : ℕ) → s.to ≤ c → gradient_at rest c ≡ gradient_at (s ∷ rest) c

@@ -1,5 +1,5 @@
 -- The slopes of a line, and the sums of their gradients under a train.
-use Rattle.std.proofs.Common.{◌≡◌, ◌≤◌, ◌<◌, ◌+◌, ◌-◌, ◌*◌, ℕ, zero, suc, List, [], ◌∷◌, length, All, ℤ, pos, neg_ℤ, ◌≤ℤ◌, ◌+ℤ◌, ◌-ℤ◌, true, false, Bool, cond, nat_le, nat_lt, ◌&&◌, refl, sym, ap, ap₂, ◌∙◌, arith, SFits, to_z, of_z}
+use Rattle.std.proofs.Common.{◌≡◌, ◌≤◌, ◌+◌, ◌-◌, ℕ, suc, List, [], ◌∷◌, length, All, ℤ, pos, neg_ℤ, ◌≤ℤ◌, ◌+ℤ◌, ◌-ℤ◌, true, false, Bool, cond, nat_le, nat_lt, ◌&&◌, ap, ◌∙◌, arith, SFits, to_z, of_z}
 use Rattle.std.specs.Prelude.{AllPairs}
 use Rattle.std.specs.Int.{w32, w64}
 use Rattle.std.proofs.lemmas.Int.{ints, to_z-of_z}
@@ -8,7 +8,7 @@ use Rattle.line_tables.specs.Slope.{Follows, SlopeLiesOn}
 use Rattle.line_tables.specs.Table.{IsLine, LineTable}
 use Rattle.line_tables.specs.declared.table.Slope.{Slope}
 use Rattle.train_mean.specs.Gradients.{gradient_at, gradients_under, sum_from, tail_cell}
-use Rattle.train_mean.specs.Windows.{AreSlopes, IsSlope, TellsFrom, gradient_left}
+use Rattle.train_mean.specs.Windows.{AreSlopes, TellsFrom, gradient_left}
 use Rattle.train_mean.proofs.GradientFacts.{sum_from-least, sum_from-most, sum_from-moved}
 use Rattle.train_mean.proofs.PullFacts.{IsMean}
 

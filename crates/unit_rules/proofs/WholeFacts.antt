@@ -7,6 +7,7 @@ use Rattle.std.specs.Str.{all_ascii_digits}
 use Rattle.std.specs.Str.Parse.{digits_value}
 use Rattle.std.proofs.lemmas.Str.Parse.{IsNumeralModel, numerals_by_value, tells_all_ascii_digits}
 use Rattle.std.proofs.lemmas.Fmt.{digits_decimal, digits_value-decimal, decimal-digits_value}
+use Rattle.std.proofs.lemmas.Bool.{and_parts}
 use Rattle.std.proofs.lemmas.Bool.Decides.{nat_tests}
 use Rattle.unit_rules.specs.Numeral.{below_zero, from_zero, is_plain_numeral, plain_of, whole_of}
 use Rattle.unit_rules.proofs.DigitFacts.{Begins, Begins-decimal, minus_value}
@@ -26,20 +27,13 @@ record Parts (ds : List ℕ) : Type 0 where
   some : 0 < length ds
   lone : get_or ds 0 0 ≡ 48 → length ds ≡ 1
 
-and_left : (a b : Bool) → (a && b) ≡ true → a ≡ true
-and_left true b e = refl
-and_left false b e = cc e
-
-and_right : (a b : Bool) → (a && b) ≡ true → b ≡ true
-and_right true b e = e
-and_right false b e = cc e
-
 plain-parts : (ds : List ℕ) → is_plain_numeral ds ≡ true → Parts ds
 plain-parts ds e =
-    let front = and_left (all_ascii_digits ds && nat_lt 0 (length ds)) (not (get_or ds 0 0 == 48) || (length ds == 1)) e in
-    let lone = and_right (all_ascii_digits ds && nat_lt 0 (length ds)) (not (get_or ds 0 0 == 48) || (length ds == 1)) e in
-    let some = and_right (all_ascii_digits ds) (nat_lt 0 (length ds)) front in
-    record { digits = and_left (all_ascii_digits ds) (nat_lt 0 (length ds)) front; some = grind (arith, nat_tests, some); lone = λ z. grind (arith, nat_tests, lone, z) }
+    let whole = and_parts (all_ascii_digits ds && nat_lt 0 (length ds)) (not (get_or ds 0 0 == 48) || (length ds == 1)) e in
+    let front = and_parts (all_ascii_digits ds) (nat_lt 0 (length ds)) whole.0 in
+    let some = front.1 in
+    let lone = whole.1 in
+    record { digits = front.0; some = grind (arith, nat_tests, some); lone = λ z. grind (arith, nat_tests, lone, z) }
 
 -- a numeral has its number
 pub plain_of-decimal : (n : ℕ) → n < 2 ^ 64 → plain_of (decimal n) ≡ Some n
@@ -90,8 +84,9 @@ below_zero-some n z e = by (nat_lt 0 n && nat_le n (2 ^ 63)) refl e
   where
     by : (b : Bool) → (nat_lt 0 n && nat_le n (2 ^ 63)) ≡ b → cond b (Some (negsuc (n - 1))) None ≡ Some z → (0 < n) × (n ≤ 2 ^ 63) × (z ≡ negsuc (n - 1))
     by true t g =
-        let p = and_left (nat_lt 0 n) (nat_le n (2 ^ 63)) t in
-        let q = and_right (nat_lt 0 n) (nat_le n (2 ^ 63)) t in
+        let parts = and_parts (nat_lt 0 n) (nat_le n (2 ^ 63)) t in
+        let p = parts.0 in
+        let q = parts.1 in
         (grind (arith, nat_tests, p), grind (arith, nat_tests, q), cc g)
     by false t g = cc g
 

@@ -21,7 +21,9 @@ plain_of ds = if is_plain_numeral ds then Some (digits_value 10 ds) else None
 
 -- the number of 64 bits that a text is the numeral of; 45 is the minus
 unfoldable pub whole_of : List ℕ → Option ℤ
-whole_of text = if slice_index text 0 == 45 then option_and_then below_zero (plain_of (drop 1 text)) else option_and_then from_zero (plain_of text)
+whole_of text =
+    if slice_index text 0 == 45 then option_and_then below_zero (plain_of (drop 1 text))
+    else option_and_then from_zero (plain_of text)
 
 -- a number, where it is from low to high
 abbrev pub within : ℕ → ℕ → ℤ → Option ℕ

@@ -1,4 +1,4 @@
-use Rattle.std.proofs.Common.{◌≡◌, ◌≤ℤ◌, ◌<ℤ◌, SFits, pos, unsigned_abs, arith, subst, sym}
+use Rattle.std.proofs.Common.{◌≤ℤ◌, ◌<ℤ◌, SFits, pos, arith, subst, sym}
 use Rattle.std.specs.Int.{w64}
 use Rattle.std.proofs.lemmas.Int.{ints, to_z-of_z}
 use Rattle.run_rules.specs.Steps.{IsPull}
@@ -22,11 +22,7 @@ returns-then-sum-lt0-clause-pull c =
 
 pub returns-then-sum-lt0-clause-small : goal.returns-then-sum-lt0-clause-small
 returns-then-sum-lt0-clause-small c =
-    let fits : SFits w64 c.args.sum = omega (arith, ints) in
-    let below : c.args.sum <ℤ pos 0 = omega (arith, ints) in
-    subst IsPull
-    (sym (pull-below c.args.mass c.args.train c.args.sum c.unsigned_abs.result c.requires.mass (record { least = c.requires.least; most = c.requires.most }) below
-    (simp to_z-of_z at c.unsigned_abs.ensures.value)))
+    subst IsPull (sym (returns-then-sum-lt0-clause-pull c))
     (IsPull-pull_of c.args.mass c.args.train c.args.sum c.requires.mass c.requires.train_least (record { least = c.requires.least; most = c.requires.most }))
 
 pub returns-else-sum-lt0-clause-pull : goal.returns-else-sum-lt0-clause-pull
@@ -38,9 +34,5 @@ returns-else-sum-lt0-clause-pull c =
 
 pub returns-else-sum-lt0-clause-small : goal.returns-else-sum-lt0-clause-small
 returns-else-sum-lt0-clause-small c =
-    let fits : SFits w64 c.args.sum = omega (arith, ints) in
-    let above : pos 0 ≤ℤ c.args.sum = omega (arith, ints) in
-    rw c.div_ceil.ensures (subst IsPull
-    (sym (pull-above_is c.args.mass c.args.train c.args.sum c.unsigned_abs.result c.requires.mass c.requires.train_least
-    (record { least = c.requires.least; most = c.requires.most }) above (simp to_z-of_z at c.unsigned_abs.ensures.value)))
-    (IsPull-pull_of c.args.mass c.args.train c.args.sum c.requires.mass c.requires.train_least (record { least = c.requires.least; most = c.requires.most })))
+    subst IsPull (sym (returns-else-sum-lt0-clause-pull c))
+    (IsPull-pull_of c.args.mass c.args.train c.args.sum c.requires.mass c.requires.train_least (record { least = c.requires.least; most = c.requires.most }))

@@ -1,10 +1,10 @@
-use Rattle.std.proofs.Common.{◌≡◌, ◌≤◌, ◌+◌, ◌-◌, ◌≤ℤ◌, ◌++◌, ◌∷◌, [], SFits, pos, neg_ℤ, refl, arith, ◌∙◌}
+use Rattle.std.proofs.Common.{◌≡◌, ◌-◌, ◌++◌, ◌∷◌, [], SFits, refl, arith, ◌∙◌}
 use Rattle.std.specs.Int.{w64}
 use Rattle.std.proofs.lemmas.Int.{ints, to_z-of_z}
 use Rattle.std.proofs.lemmas.List.Elements.{All-nil, All-push}
 use Rattle.std.proofs.lemmas.List.FromFn.{map-range_with_len_more}
 use Rattle.run_rules.specs.Steps.{IsPull}
-use Rattle.train_mean.specs.Gradients.{gradients_under, pull_of, tail_cell}
+use Rattle.train_mean.specs.Gradients.{gradients_under, pull_of}
 use Rattle.train_mean.proofs.WindowFacts.{AreSlopes-line, IsMean-under, IsSumUnder-moved}
 use Rattle.train_mean.proofs.pulls.Goals as goal
 

@@ -1,13 +1,14 @@
 use Rattle.std.proofs.Common.{◌≡◌, ℕ, ◌<◌, ◌≤◌, length, rules, slice_index, true}
 use Rattle.step_rule.specs.Motion.{kmh_of}
-use Rattle.effort_run.proofs.LevelFacts.{IsBrakingList-level, most-level}
+use Rattle.table_laws.proofs.ToyFacts.{squared-toy}
+use Rattle.effort_run.proofs.LevelFacts.{IsBrakingList-level}
 use Rattle.effort_run.proofs.tests.walk_over.Goals as goal
 
 pub walk_on-requires-clause-in_range : goal.walk_on-requires-clause-in_range
 walk_on-requires-clause-in_range g c =
     let holds : c.brakes.result ≡ true = search rules in
     let small : (i : ℕ) → i < length c.args.c.now → slice_index c.args.c.now i ≤ 36000000 = rw holds at c.brakes.ensures.in_range in
-    λ i l. most-level (kmh_of c.args.rule.now) (slice_index c.args.c.now i) c.requires.top (small i l)
+    λ i l. squared-toy (kmh_of c.args.rule.now) (slice_index c.args.c.now i) c.requires.top (small i l)
 
 pub walk_on-requires-clause-braking_list : goal.walk_on-requires-clause-braking_list
 walk_on-requires-clause-braking_list g c =

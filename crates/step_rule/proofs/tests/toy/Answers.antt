@@ -1,6 +1,6 @@
 use Rattle.std.proofs.Common.{◌≡◌, pos, arith, rules, ◌∙◌, SFits, w64}
 use Rattle.std.proofs.lemmas.Int.{ints, to_z-of_z}
-use Rattle.step_rule.proofs.ToyFacts.{IsTable-toy, row-toy}
+use Rattle.table_laws.proofs.ToyFacts.{IsTable-toy, row-toy}
 use Rattle.step_rule.proofs.tests.toy.Goals as goal
 
 pub new-requires : goal.new-requires

@@ -1,6 +1,7 @@
-use Rattle.std.proofs.Common.{ℤ, List, arith, ap, ◌∙◌, inr}
+use Rattle.std.proofs.Common.{◌≡◌, ℤ, List, arith, ap, ◌∙◌, inr}
 use Rattle.std.proofs.lemmas.Int.{ints}
 use Rattle.table_laws.specs.declared.Law.TheVariants.{Climb}
+use Rattle.stock_tables.specs.Motion.{brake_rows}
 use Rattle.stock_tables.specs.StockFile.{table_of}
 use Rattle.stock_tables.proofs.MotionFacts.{IsStrong-brake, IsTable-brake, IsTableTo-brake, brake_rows-made}
 use Rattle.stock_tables.proofs.ValueFacts.{IsValue-row}
@@ -20,19 +21,17 @@ table_of-requires c =
     let made = brake_rows-made c.args.top c.args.rates.now _ _ c.in_ok-rates.ensures.value c.brake_rows.ensures in
     rw made (IsTable-brake c.args.top c.args.rates.now c.requires.some c.requires.rates c.requires.strong)
 
-pub returns-clause-value : goal.returns-clause-value
-returns-clause-value c =
+-- the table is read as that of the rates at each whole km/h
+table-is : (c : goal.After-table_of) → c.table_of.result ≡ table_of 7 Climb (brake_rows c.args.top c.args.rates.now)
+table-is c =
     let made = brake_rows-made c.args.top c.args.rates.now _ _ c.in_ok-rates.ensures.value c.brake_rows.ensures in
-    inr (c.table_of.ensures.value ∙ ap (λ (q : List ℤ). table_of 7 Climb q) made)
+    c.table_of.ensures.value ∙ ap (λ (q : List ℤ). table_of 7 Climb q) made
+
+pub returns-clause-value : goal.returns-clause-value
+returns-clause-value c = inr (table-is c)
 
 pub returns-clause-kept : goal.returns-clause-kept
-returns-clause-kept c =
-    let made = brake_rows-made c.args.top c.args.rates.now _ _ c.in_ok-rates.ensures.value c.brake_rows.ensures in
-    let read = c.table_of.ensures.value ∙ ap (λ (q : List ℤ). table_of 7 Climb q) made in
-    IsTableTo-brake c.args.top Climb c.args.rates.now c.table_of.result read c.table_of.ensures.kept
+returns-clause-kept c = IsTableTo-brake c.args.top Climb c.args.rates.now c.table_of.result (table-is c) c.table_of.ensures.kept
 
 pub returns-clause-strong : goal.returns-clause-strong
-returns-clause-strong c =
-    let made = brake_rows-made c.args.top c.args.rates.now _ _ c.in_ok-rates.ensures.value c.brake_rows.ensures in
-    let read = c.table_of.ensures.value ∙ ap (λ (q : List ℤ). table_of 7 Climb q) made in
-    IsStrong-brake c.args.top Climb c.args.rates.now c.table_of.result read c.requires.rates c.requires.strong
+returns-clause-strong c = IsStrong-brake c.args.top Climb c.args.rates.now c.table_of.result (table-is c) c.requires.rates c.requires.strong

@@ -1,5 +1,6 @@
-use Rattle.std.proofs.Common.{ℤ, List, arith, ap, ◌∙◌, inr}
+use Rattle.std.proofs.Common.{◌≡◌, ℤ, List, arith, ap, ◌∙◌, inr}
 use Rattle.table_laws.specs.declared.Law.TheVariants.{Drop}
+use Rattle.stock_tables.specs.Motion.{push_rows}
 use Rattle.stock_tables.specs.StockFile.{table_of}
 use Rattle.stock_tables.proofs.MotionFacts.{IsTable-push, IsTableTo-push, push_rows-made}
 use Rattle.stock_tables.proofs.ValueFacts.{IsValue-row, length-values, top-slow}
@@ -24,13 +25,14 @@ table_of-requires c =
     let made = push_rows-made c.args.top c.args.effort.now c.args.resistance _ _ c.in_ok-efforts.ensures.value c.push_rows.ensures in
     rw made (IsTable-push c.args.top c.args.effort.now c.args.resistance c.requires.some c.requires.effort c.requires.resistance)
 
-pub returns-clause-value : goal.returns-clause-value
-returns-clause-value c =
+-- the table is read as that of the effort less the resistance at each whole km/h
+table-is : (c : goal.After-table_of) → c.table_of.result ≡ table_of 5 (Drop c.args.moved_mass) (push_rows c.args.top c.args.effort.now c.args.resistance)
+table-is c =
     let made = push_rows-made c.args.top c.args.effort.now c.args.resistance _ _ c.in_ok-efforts.ensures.value c.push_rows.ensures in
-    inr (c.table_of.ensures.value ∙ ap (λ (q : List ℤ). table_of 5 (Drop c.args.moved_mass) q) made)
+    c.table_of.ensures.value ∙ ap (λ (q : List ℤ). table_of 5 (Drop c.args.moved_mass) q) made
+
+pub returns-clause-value : goal.returns-clause-value
+returns-clause-value c = inr (table-is c)
 
 pub returns-clause-kept : goal.returns-clause-kept
-returns-clause-kept c =
-    let made = push_rows-made c.args.top c.args.effort.now c.args.resistance _ _ c.in_ok-efforts.ensures.value c.push_rows.ensures in
-    let read = c.table_of.ensures.value ∙ ap (λ (q : List ℤ). table_of 5 (Drop c.args.moved_mass) q) made in
-    IsTableTo-push c.args.top (Drop c.args.moved_mass) c.args.effort.now c.args.resistance c.table_of.result read c.table_of.ensures.kept
+returns-clause-kept c = IsTableTo-push c.args.top (Drop c.args.moved_mass) c.args.effort.now c.args.resistance c.table_of.result (table-is c) c.table_of.ensures.kept
