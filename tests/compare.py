@@ -60,14 +60,18 @@ def drawn_train(random: Random) -> Train:
     effort = mass * random.uniform(weakest, strongest) / 1000
     weakest, strongest = random.choice([(50, 50), (50, 120), (100, 1000), (800, 3000)])  # mm/s²
     rate = random.uniform(weakest, strongest)
-    held = mass * random.choice([0, 0, random.uniform(0, 0.02), random.uniform(0, 0.1)])
+    resistance = mass * random.choice([0, 0, random.uniform(0, 0.02), random.uniform(0, 0.1)])
     return Train(
         mass=int(mass),
         rotating=random.choice([0, random.randint(0, 300)]),
         length=random.randint(1, 40),
         top=top,
         effort=drawn_rows(random, top, effort, (0.5, 1.05), (0, 3000000)),
-        resistance=(int(held), int(held * random.uniform(0, 10)), int(held * random.uniform(0, 0.3))),
+        resistance=(
+            min(int(resistance), 1000000),
+            min(int(resistance * random.uniform(0, 10)), 10000000),
+            min(int(resistance * random.uniform(0, 0.3)), 1000000),
+        ),
         brake=drawn_rows(random, top, rate, (0.7, 1.2), (50, 3000)),
     )
 
