@@ -31,7 +31,7 @@ PROGRAM = TOP / "crates" / "rtime" / "out" / "rtime"
 EXAMPLE = TOP / "examples" / "lauter"
 SECONDS = 60
 COUNT = 300
-SEED = 2
+SEED = 1
 
 Result = tuple[str, bool, str]
 Answer = tuple[int, str]
