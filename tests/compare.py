@@ -141,7 +141,7 @@ def drawn_waves(random: Random, length: int) -> tuple[Zone, ...]:
     zones: list[Zone] = []
     height = 0
     for start in range(0, length, metres):
-        rise = random.choice([-1, 0, 1, 1] if height < 0 else [-1, -1, -1, 0] if start else [-1])
+        rise = random.choice([-1, 0, 1, 1] if height < 0 else [-1, -1, -1, 0])
         zones.append((start, min(start + metres, length), rise * slope))
         height += rise
     return tuple(zones)
