@@ -188,6 +188,7 @@ def read_line(text: str) -> Line:
 
 KINDS = [
     "whole",
+    "stalled",
     "stalled at 1",
     "stalled on the way",
     "stalled at the last point",
