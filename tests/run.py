@@ -1,5 +1,5 @@
 #!/usr/bin/env python3
-"""Runs the cases of tests/cases/ against the proved program.
+"""Runs the cases of tests/cases/ against the proved program, then the comparisons of compare.py.
 
 Each file of tests/cases/ is TOML and has tables `[[case]]` with
 
@@ -29,11 +29,16 @@ them a table may have
 The program is started in a new folder that holds those files alone.
 """
 
+import itertools
 import pathlib
 import subprocess
 import sys
 import tempfile
 import tomllib
+
+sys.dont_write_bytecode = True  # the sources have no folder of compiled ones beside them
+
+import compare
 
 TOP = pathlib.Path(__file__).resolve().parent.parent
 SECONDS = 60
@@ -140,23 +145,29 @@ def shown(text):
     return repr(text if len(text) <= 400 else text[:400] + b"..")
 
 
-def main():
-    passed = failed = 0
-    subprocess.run([str(TOP / "rtime")], stdout=subprocess.DEVNULL, check=False)
+def case_results():
+    """Of each case its name, whether it passed, and how it differs."""
     for path in sorted((TOP / "tests" / "cases").glob("*.toml")):
         for case in cases_of(path):
             with tempfile.TemporaryDirectory() as folder:
                 status, output = run(case, pathlib.Path(folder))
-            if status == case.get("status", 0) and is_wanted(case, output):
-                passed += 1
-                continue
-            failed += 1
-            print(f"FAILED {path.name}: {case['name']}")
-            print(f"  status {status}, wanted {case.get('status', 0)}")
-            print(f"  output {shown(output)}")
-            print(f"  wanted {wanted_of(case)}")
-    print(f"{passed} passed, {failed} failed")
-    return 1 if failed or not passed else 0
+            passed = status == case.get("status", 0) and is_wanted(case, output)
+            yield f"{path.name}: {case['name']}", passed, (
+                f"  status {status}, wanted {case.get('status', 0)}\n"
+                f"  output {shown(output)}\n"
+                f"  wanted {wanted_of(case)}\n"
+            )
+
+
+def main():
+    subprocess.run([str(TOP / "rtime")], stdout=subprocess.DEVNULL, check=False)
+    counts = {True: 0, False: 0}
+    for name, passed, detail in itertools.chain(case_results(), compare.comparisons()):
+        counts[passed] += 1
+        if not passed:
+            print(f"FAILED {name}\n{detail}", end="")
+    print(f"{counts[True]} passed, {counts[False]} failed")
+    return 1 if counts[False] or not counts[True] else 0
 
 
 if __name__ == "__main__":

@@ -1,0 +1,403 @@
+#!/usr/bin/env python3
+"""Compares the proved program with the model of model.py.
+
+    python3 tests/compare.py [COUNT [SEED]]
+
+draws COUNT lines and trains from SEED, the same ones at each run, asks the program for `stock`, `caps`,
+`rise`, `brakes` and `envelope` over each, and compares whole outputs and exit statuses with what the
+model says. It compares as well how `stock` refuses trains that break a law of their tables, and all
+commands over the example line. At the end it prints how many of the trains drawn ran the whole line and
+how many were stalled. tests/run.py makes the same comparisons with the COUNT and SEED below.
+"""
+
+import csv
+import pathlib
+import subprocess
+import sys
+import tempfile
+import tomllib
+from collections import Counter
+from collections.abc import Iterable, Iterator, Sequence
+from dataclasses import dataclass, replace
+from functools import cached_property
+from random import Random
+
+sys.dont_write_bytecode = True  # the sources have no folder of compiled ones beside them
+
+from model import Drive, Line, Row, Train, Zone, between, caps_of, squared
+
+TOP = pathlib.Path(__file__).resolve().parent.parent
+PROGRAM = TOP / "crates" / "rtime" / "out" / "rtime"
+EXAMPLE = TOP / "examples" / "lauter"
+SECONDS = 60
+COUNT = 300
+SEED = 4
+
+Result = tuple[str, bool, str]
+Answer = tuple[int, str]
+
+
+# Drawing
+
+
+def drawn_rows(
+    random: Random, top: int, first: float, factors: tuple[float, float], bounds: Row
+) -> tuple[Row, ...]:
+    """Rows from 0 to `top` km/h whose values begin at `first` and change by factors, within bounds."""
+    inner = random.sample(range(1, top), min(random.randint(0, 3), top - 1))
+    rows = []
+    for kmh in [0, *sorted(inner), top]:
+        rows.append((kmh, min(max(int(first), bounds[0]), bounds[1])))
+        first *= random.uniform(*factors)
+    return tuple(rows)
+
+
+def drawn_train(random: Random) -> Train:
+    """A train of 1 to 40 m, light or heavy, weak or strong, whose tables may break a law."""
+    mass = 10 ** random.choice([random.uniform(3, 6), random.uniform(3, 6), random.uniform(6, 7.3)])
+    top = random.randint(1, 60) if random.random() < 0.95 else random.randint(61, 500)
+    weakest, strongest = random.choice([(0, 40), (30, 200), (100, 600), (300, 2000)])  # mm/s²
+    effort = mass * random.uniform(weakest, strongest) / 1000
+    weakest, strongest = random.choice([(50, 50), (50, 120), (100, 1000), (800, 3000)])  # mm/s²
+    rate = random.uniform(weakest, strongest)
+    resistance = mass * random.choice([0, 0, random.uniform(0, 0.02), random.uniform(0, 0.1)])
+    return Train(
+        mass=int(mass),
+        rotating=random.choice([0, random.randint(0, 300)]),
+        length=random.randint(1, 40),
+        top=top,
+        effort=drawn_rows(random, top, effort, (0.5, 1.05), (0, 3000000)),
+        resistance=(
+            min(int(resistance), 1000000),
+            min(int(resistance * random.uniform(0, 10)), 10000000),
+            min(int(resistance * random.uniform(0, 0.3)), 1000000),
+        ),
+        brake=drawn_rows(random, top, rate, (0.7, 1.2), (50, 3000)),
+    )
+
+
+def rolling_train(random: Random) -> Train:
+    """A train that speeds up by less than 1 on a level metre, so that by itself it doesn't start."""
+    train, mass = drawn_train(random), random.randint(1000000, 20000000)
+    effort = random.randint(0, mass // 259200)
+    return replace(
+        train,
+        mass=mass,
+        length=random.randint(1, 3),
+        effort=((0, effort), (train.top, effort)),
+        resistance=(0, 0, 0),
+    )
+
+
+def lawful_train(random: Random) -> Train:
+    """A train whose tables keep both laws."""
+    while True:
+        train = rolling_train(random) if random.random() < 0.15 else drawn_train(random)
+        if not train.breaks_effort_law() and not train.breaks_brake_law():
+            return train
+
+
+def lawless_train(random: Random) -> Train:
+    """A train whose tables break one of the laws."""
+    while True:
+        train = drawn_train(random)
+        if bool(train.breaks_effort_law()) != bool(train.breaks_brake_law()):
+            return train
+
+
+def drawn_stretches(random: Random, length: int) -> list[Row]:
+    """Up to four stretches of a line, as pairs of points, with or without gaps between them."""
+    points = sorted(random.choices(range(length + 1), k=2 * random.randint(0, 4)))
+    if random.random() < 0.3:
+        points[-1:] = [length]
+    pairs = zip(points[::2], points[1::2]) if random.random() < 0.5 else zip(points, points[1:])
+    return [(start, end) for start, end in pairs if start < end]
+
+
+def drawn_ramp(random: Random, length: int, train: Train) -> Zone:
+    """A short ramp that slows the train by more than its brakes, or little less."""
+    start = random.randint(length // 2, length - 1)
+    end = min(start + random.randint(1, 2 * train.length), length)
+    rate = 1000 * train.effort[0][1] // train.mass + train.brake[0][1]
+    return start, end, min(int(rate * random.uniform(0.8, 4) / 0.981), 1000)
+
+
+def drawn_gradients(random: Random, length: int, train: Train) -> tuple[Zone, ...]:
+    """Gradients of a line, level to steep; some are what the train's effort can just hold, or more."""
+    if random.random() < 0.2:
+        return (drawn_ramp(random, length, train),)
+    held = int(1000 * train.effort[0][1] / train.mass / 0.981)
+    steepest = min(random.choice([0, 10, 50, 200, 1000, held, 2 * held, 5 * held]), 1000)
+    flattest = random.choice([-steepest, -steepest // 4, 0, steepest // 2])
+    return tuple(
+        (start, end, random.randint(flattest, steepest))
+        for start, end in drawn_stretches(random, length)
+    )
+
+
+def drawn_waves(random: Random, length: int) -> tuple[Zone, ...]:
+    """Slopes down and up alike, that often climb back to where they began, and never above."""
+    slope, metres = random.randint(1, 40), random.randint(1, 3)
+    zones: list[Zone] = []
+    height = 0
+    for start in range(0, length, metres):
+        rise = random.choice([-1, 0, 1, 1] if height < 0 else [-1, -1, -1, 0])
+        zones.append((start, min(start + metres, length), rise * slope))
+        height += rise
+    return tuple(zones)
+
+
+def drawn_line(random: Random, train: Train) -> Line:
+    """A line of 2 to 120 m, with limits about the train's speeds."""
+    length = random.randint(2, random.choice([6, 120, 120, 120]))
+    if 0 <= train.pushes[0] < train.moved:
+        gradients = drawn_waves(random, length)
+    else:
+        gradients = drawn_gradients(random, length, train)
+    limits: list[Zone] = []
+    for _ in range(random.choice([0, 1, 2, 5])):
+        start, end = sorted(random.sample(range(length + 1), 2))
+        limits.append((start, end, random.randint(1, min(train.top + 3, 500))))
+    return Line(length, gradients, tuple(limits))
+
+
+# Reading
+
+
+def read_train(text: str) -> Train:
+    """The train of a stock file that breaks no rule."""
+    keys = tomllib.loads(text)
+    keys |= {key: tuple(map(tuple, keys[key])) for key in ("effort", "brake")}
+    keys |= {"resistance": tuple(keys["resistance"])}
+    return Train(**{key: keys[key] for key in Train.__dataclass_fields__})
+
+
+def read_line(text: str) -> Line:
+    """The line of a line file that breaks no rule."""
+    records = list(csv.reader(text.splitlines()))
+
+    def zones(kind: str) -> tuple[Zone, ...]:
+        return tuple(tuple(map(int, record[1:])) for record in records if record[:1] == [kind])
+
+    length = next(int(record[2]) for record in records if record[:1] == ["line"])
+    return Line(length, zones("gradient"), zones("limit"))
+
+
+# What is compared
+
+
+KINDS = [
+    "whole",
+    "stalled",
+    "stalled at 1",
+    "stalled on the way",
+    "stalled at the last point",
+    "stalled as it stands at two neighbouring points",
+    "whole with a stand at a point on the way",
+    "whole over a hill that slows more than the brakes",
+]
+
+
+def line_text(line: Line) -> str:
+    """The line file of a line."""
+    records = [f"line,Drawn,{line.length}"]
+    records += [f"gradient,{start},{end},{slope}" for start, end, slope in line.gradients]
+    records += [f"limit,{start},{end},{kmh}" for start, end, kmh in line.limits]
+    return "".join(f"{record}\n" for record in records)
+
+
+def stock_text(train: Train) -> str:
+    """The stock file of a train."""
+    values = {key: getattr(train, key) for key in Train.__dataclass_fields__}
+    rows = {key: [list(row) for row in values[key]] for key in ("effort", "brake")}
+    values |= {"resistance": list(train.resistance), **rows}
+    return "".join(f"{key} = {value}\n" for key, value in values.items())
+
+
+def numbers_text(numbers: Iterable[int]) -> str:
+    """The text of a list: a line `POINT NUMBER` for each point."""
+    return "".join(f"{point} {number}\n" for point, number in enumerate(numbers))
+
+
+def stock_answer(train: Train) -> Answer:
+    """What `stock` answers, of a train that breaks one law at most."""
+    broken = [(k, 5) for k in train.breaks_effort_law()] + [(k, 6) for k in train.breaks_brake_law()]
+    if broken:
+        kmh, rule = broken[0]
+        return 5, f"refused 2 {kmh} {rule}\n"
+    rows = enumerate(zip(train.pushes, train.brakings))
+    head = f"{train.moved} {train.mass} {train.length} {train.top}\n"
+    return 0, head + "".join(f"{kmh} {push} {braking}\n" for kmh, (push, braking) in rows)
+
+
+@dataclass(frozen=True)
+class Journey:
+    """A train on a line, and a speed for `rise`."""
+
+    line: Line
+    train: Train
+    kmh: int  # km/h
+
+    @cached_property
+    def drive(self) -> Drive:
+        return Drive(self.line, self.train)
+
+    @cached_property
+    def limits(self) -> list[int]:
+        """The caps of the line's limits alone."""
+        return caps_of(self.line, self.train.length, self.train.top)
+
+    @cached_property
+    def caps(self) -> list[int]:
+        """The caps of a train that stands at both ends."""
+        ends = [0, self.line.length]
+        return caps_of(self.line, self.train.length, self.train.top, ends)
+
+    @cached_property
+    def run(self) -> list[int] | None:
+        return self.drive.run(self.caps)
+
+    @cached_property
+    def stall(self) -> int | None:
+        return self.drive.stall(self.caps)
+
+    def rise_text(self) -> str:
+        """The text of `rise`: a line `CELL PULL UP LOW` for each cell."""
+        drive, u = self.drive, squared(min(self.kmh, self.train.top))
+        return "".join(
+            f"{cell} {pull} {drive.up(cell, u)} {drive.low(cell, u)}\n"
+            for cell, pull in enumerate(drive.pulls)
+        )
+
+    def envelope_answer(self) -> Answer:
+        """What `envelope` answers."""
+        if self.run is None:
+            return 6, f"stalled {self.stall}\n"
+        return 0, numbers_text(self.run)
+
+    def answers(self) -> Iterator[tuple[list[str], Answer]]:
+        """The words that are asked, each with the status and the output that the model gives."""
+        length, top = str(self.train.length), str(self.train.top)
+        brakes = self.drive.brakes(self.caps)
+        yield ["stock", "train.toml"], stock_answer(self.train)
+        yield ["caps", "line.csv", length, top], (0, numbers_text(self.limits))
+        yield ["rise", "line.csv", "train.toml", str(self.kmh)], (0, self.rise_text())
+        yield ["brakes", "line.csv", "train.toml"], (0, numbers_text(brakes))
+        yield ["envelope", "line.csv", "train.toml"], self.envelope_answer()
+
+    def kinds(self) -> Iterator[str]:
+        """The kinds of case that this is one of."""
+        if self.run is None:
+            ends = {1: "stalled at 1", self.line.length: "stalled at the last point"}
+            yield "stalled"
+            yield ends.get(self.stall, "stalled on the way")
+            before = self.drive.keeps(self.caps, self.stall - 1)[self.stall - 1]
+            if self.drive.up(self.stall - 1, before) == 0:
+                yield "stalled as it stands at two neighbouring points"
+        else:
+            yield "whole"
+            if not all(self.run[1:-1]):
+                yield "whole with a stand at a point on the way"
+            if any(self.is_steep(cell, u) for cell, u in enumerate(self.run[:-1])):
+                yield "whole over a hill that slows more than the brakes"
+
+    def is_steep(self, cell: int, u: int) -> bool:
+        """Whether the hill at a cell slows the train more than its brakes do."""
+        return self.drive.up(cell, u) < u - between(self.train.brakings, u)
+
+    def files(self) -> dict[str, str]:
+        """The files that say the line and the train."""
+        return {"line.csv": line_text(self.line), "train.toml": stock_text(self.train)}
+
+
+# Comparing
+
+
+def program_answer(words: Sequence[str], folder: pathlib.Path) -> Answer:
+    """The exit status and the output of the program, run in a folder."""
+    ended = subprocess.run([PROGRAM, *words], cwd=folder, stdout=subprocess.PIPE, timeout=SECONDS)
+    return ended.returncode, ended.stdout.decode(errors="replace")
+
+
+def difference(words: Sequence[str], answer: Answer, wanted: Answer) -> str:
+    """The first place at which an answer isn't the one wanted; empty where it is."""
+    if answer == wanted:
+        return ""
+    lines, lines_wanted = answer[1].split("\n"), wanted[1].split("\n")
+    pairs = enumerate(zip(lines, lines_wanted), 1)
+    first = next((number for number, (a, b) in pairs if a != b), min(len(lines), len(lines_wanted)))
+    return (
+        f"  {' '.join(words)}: status {answer[0]}, wanted {wanted[0]}; line {first} is "
+        f"{lines[first - 1 : first]}, wanted {lines_wanted[first - 1 : first]}\n"
+    )
+
+
+def compared(
+    name: str, files: dict[str, str], answers: Iterable[tuple[list[str], Answer]]
+) -> Result:
+    """The result of asking the program all words over the files."""
+    with tempfile.TemporaryDirectory() as given:
+        folder = pathlib.Path(given)
+        for file, text in files.items():
+            (folder / file).write_text(text)
+        differences = [
+            difference(words, program_answer(words, folder), wanted) for words, wanted in answers
+        ]
+    contents = "".join(f"  {file}: {text!r}\n" for file, text in files.items())
+    return name, not any(differences), "".join(differences) + contents
+
+
+def example() -> Result:
+    """Compares what is said of the example train on the example line."""
+    files = {"line.csv": EXAMPLE / "line.csv", "train.toml": EXAMPLE / "railcar.toml"}
+    texts = {name: path.read_text() for name, path in files.items()}
+    journey = Journey(read_line(texts["line.csv"]), read_train(texts["train.toml"]), 60)
+    return compared("the example", texts, journey.answers())
+
+
+def refusals(random: Random, count: int) -> Iterator[Result]:
+    """Compares how trains that break a law are refused."""
+    for number in range(1, count + 1):
+        train = lawless_train(random)
+        files = {"train.toml": stock_text(train)}
+        yield compared(f"lawless {number}", files, [(["stock", "train.toml"], stock_answer(train))])
+
+
+def comparisons(
+    count: int = COUNT, seed: int = SEED, kinds: Counter[str] | None = None
+) -> Iterator[Result]:
+    """Compares the program and the model: for each case its name, whether they agree, and details.
+
+    The kinds of the cases are counted in `kinds`.
+    """
+    random = Random(seed)
+    kinds = Counter() if kinds is None else kinds
+    for number in range(1, count + 1):
+        train = lawful_train(random)
+        kmh = random.randint(0, min(train.top + 3, 500))
+        drawn = Journey(drawn_line(random, train), train, kmh)
+        kinds.update(drawn.kinds())
+        yield compared(f"drawn {number}", drawn.files(), drawn.answers())
+    yield from refusals(random, count // 5)
+    yield example()
+    if count >= COUNT:
+        missing = [kind for kind in KINDS if not kinds[kind]]
+        yield "all kinds of trains are drawn", not missing, f"  none is {missing}\n"
+
+
+def main() -> int:
+    subprocess.run([TOP / "rtime"], stdout=subprocess.DEVNULL, check=False)
+    kinds: Counter[str] = Counter()
+    passed = failed = 0
+    for name, is_right, detail in comparisons(*map(int, sys.argv[1:3]), kinds=kinds):
+        passed, failed = passed + is_right, failed + (not is_right)
+        if not is_right:
+            print(f"FAILED {name}\n{detail}", end="")
+    for kind in KINDS:
+        print(f"{kinds[kind]} {kind}")
+    print(f"{passed} passed, {failed} failed")
+    return 1 if failed or not passed else 0
+
+
+if __name__ == "__main__":
+    sys.exit(main())
