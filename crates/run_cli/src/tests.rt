@@ -9,10 +9,22 @@ use std::marker::Brand;
 use std::sync::ledger::Blank;
 use std::test::Fail;
 
-const FILE: &[u8] = b"line,Lim,4\nlimit,1,2,36\n";
+const LIM: &[u8] = b"line,Lim,4\nlimit,1,2,36\n";
 
-// The caps of that file for a train of 1 m and 60 km/h, by the rule: the limit binds at points 1 to 3.
+// The caps of that line for a train of 1 m and 60 km/h, by the rule: the limit binds at points 1 to 3.
 const CAPS: &[u8] = b"0 36000000\n1 12960000\n2 12960000\n3 12960000\n4 36000000\n";
+
+const TEN: &[u8] = b"line,Ten,10\n";
+
+const HILL: &[u8] = b"line,Hill,1000\ngradient,50,1000,100\n";
+
+// On the level full effort adds 20000 to its squared speed in each metre, and its brakes take 25920.
+const TOY: &[u8] =
+    b"mass = 259200\nrotating = 0\nlength = 10\ntop = 60\neffort = [[0, 20000], [60, 20000]]\nresistance = [0, 0, 0]\nbrake = [[0, 100], [60, 100]]\n";
+
+// Its fastest run over ten level metres.
+const RUN: &[u8] =
+    b"0 0\n1 20000\n2 40000\n3 60000\n4 80000\n5 100000\n6 103680\n7 77760\n8 51840\n9 25920\n10 0\n";
 
 fn run_counted<L: Ledger>(
     alloc: Global,
@@ -42,50 +54,87 @@ type Case = (
     &'static [u8],
 );
 
-const WORDS: &str = "caps lim.csv 1 60";
+const LIMITED: &str = "caps lim.csv 1 60";
+
+const FREE: &str = "envelope ten.csv toy.toml";
+
+const STEEP: &str = "envelope hill.csv toy.toml";
+
+const CASES: [Case; 14] = [
+    (LIMITED, &[], 1000, 1000, &[], Status::Done, CAPS),
+    (LIMITED, &[], 1000, 3, &[], Status::Done, CAPS),
+    (
+        "caps none.csv 1 60",
+        &[],
+        1000,
+        1000,
+        &[],
+        Status::ReadFault,
+        b"",
+    ),
+    ("caps", &[1], 1000, 1000, &[], Status::Usage, b"usage\n"),
+    ("", &[], 3, 2, &[], Status::WriteFault, b"usa"),
+    (FREE, &[], 1000, 1000, &[], Status::Done, RUN),
+    (FREE, &[], 1000, 3, &[], Status::Done, RUN),
+    (FREE, &[], 1000, 4, &[3], Status::WriteFault, b"0 0\n1 20"),
+    (FREE, &[], 4, 1000, &[], Status::WriteFault, b"0 0\n"),
+    (FREE, &[1], 1000, 1000, &[], Status::ReadFault, b""),
+    (FREE, &[2], 1000, 1000, &[], Status::ReadFault, b""),
+    (
+        "envelope ten.csv none.toml",
+        &[],
+        1000,
+        1000,
+        &[],
+        Status::ReadFault,
+        b"",
+    ),
+    (
+        STEEP,
+        &[],
+        1000,
+        1000,
+        &[],
+        Status::Stalled { point: 256 },
+        b"stalled 256\n",
+    ),
+    (STEEP, &[], 1000, 4, &[2], Status::WriteFault, b"stal"),
+];
+
+// The files that the words of the cases name.
+fn shelf_with(alloc: Global, failing: &[u64]) -> Result<MemShelf, Fail> {
+    let mut files = Vec::new(alloc);
+    for (name, bytes) in [
+        ("lim.csv", LIM),
+        ("ten.csv", TEN),
+        ("hill.csv", HILL),
+        ("toy.toml", TOY),
+    ] {
+        files.push((
+            String::from_str(alloc, name)?,
+            Vec::from_slice(alloc, bytes)?,
+        ))?;
+    }
+    Ok(MemShelf::new(files, Vec::from_slice(alloc, failing)?))
+}
 
 #[test]
 fn statuses_and_texts(rt: HostRuntime) -> Result<(), Fail> {
     let alloc = rt.alloc();
-    let absent = "caps none.csv 1 60";
-    let cases: [Case; 8] = [
-        (WORDS, &[], 1000, 1000, &[], Status::Done, CAPS),
-        (WORDS, &[], 1000, 3, &[], Status::Done, CAPS),
-        (WORDS, &[], 1000, 4, &[3], Status::WriteFault, &CAPS[..8]),
-        (WORDS, &[], 4, 1000, &[], Status::WriteFault, &CAPS[..4]),
-        (WORDS, &[1], 1000, 1000, &[], Status::ReadFault, b""),
-        (absent, &[], 1000, 1000, &[], Status::ReadFault, b""),
-        ("caps", &[1], 1000, 1000, &[], Status::Usage, b"usage\n"),
-        ("", &[], 3, 2, &[], Status::WriteFault, b"usa"),
-    ];
-    for (given, shelf_fails, room, most, sink_fails, wanted, text) in cases {
-        let mut files = Vec::new(alloc);
-        files.push((
-            String::from_str(alloc, "lim.csv")?,
-            Vec::from_slice(alloc, FILE)?,
-        ))?;
-        let mut shelf = MemShelf::new(files, Vec::from_slice(alloc, shelf_fails)?);
+    for (given, shelf_fails, room, most, sink_fails, wanted, text) in CASES {
+        let mut shelf = shelf_with(alloc, shelf_fails)?;
         let mut words = Vec::new(alloc);
         for word in given.split(' ') {
             words.push(String::from_str(alloc, word)?)?;
         }
-        let out = MemSink::new(
-            alloc,
-            room,
-            most.max(1),
-            Vec::from_slice(alloc, sink_fails)?,
-        );
+        let failing = Vec::from_slice(alloc, sink_fails)?;
+        let out = MemSink::new(alloc, room, most.max(1), failing);
         assert!(rt; out.is_ok());
         let Ok(mut out) = out else {
             return Ok(());
         };
-        let status = run_counted::<Brand>(
-            alloc,
-            words.as_slice(),
-            &mut shelf,
-            &mut out,
-            Blank::new(1),
-        );
+        let words = words.as_slice();
+        let status = run_counted::<Brand>(alloc, words, &mut shelf, &mut out, Blank::new(1));
         assert_eq!(rt; status, wanted);
         assert_eq!(rt; out.written(), text);
     }
