@@ -6,8 +6,8 @@ Each file of tests/cases/ is TOML and has tables `[[case]]` with
     name    what the case shows
     words   the words of the command line: a text, or `{ hex = ".." }`
     files   the files that lie where the program runs, by name: a text; `{ hex = ".." }`, its bytes;
-            `{ size = N }`, N bytes of 0; or `{ text = "..", size = N }`, a text and then line ends, to
-            N bytes
+            `{ size = N }`, N bytes of 0; `{ text = "..", size = N }`, a text and then line ends, to N
+            bytes; or `{ path = ".." }`, the bytes of a file of the repository
     input   the text of standard input (none: no bytes)
     stdout  a place to which the output goes in place of a pipe, as "/dev/full" or "closed"
     status  the exit status that is wanted (none: 0)
@@ -50,6 +50,8 @@ def content_of(given):
         return given.encode()
     if "hex" in given:
         return bytes.fromhex(given["hex"])
+    if "path" in given:
+        return (TOP / given["path"]).read_bytes()
     if "text" in given:
         return given["text"].encode().ljust(given["size"], b"\n")
     return bytes(given["size"])
