@@ -85,7 +85,7 @@ def measured(command: Command, length: int, folder: pathlib.Path) -> Measured:
 
 def rows(command: Command, folder: pathlib.Path) -> Iterator[str]:
     """The rows of a command in the table that is printed."""
-    start = seconds_of([], folder)  # no words: `usage`
+    start = seconds_of([], folder)  # no words: `usage`, before any file is read
     all_measured = [measured(command, length, folder) for length in LENGTHS]
     least = all_measured[0]
     for each in all_measured:
@@ -96,7 +96,7 @@ def rows(command: Command, folder: pathlib.Path) -> Iterator[str]:
             f"{each.most_steps:,}",
             steps,
             f"{each.seconds / least.seconds:.2f}",
-            f"{min(start / each.seconds, 1):.0%}",
+            f"{(each.seconds - start) / (least.seconds - start):.1f}",
             f"{each.size / each.seconds / 1e6:.1f}",
         ]
         yield f"| {' | '.join(columns)} |"
@@ -104,7 +104,7 @@ def rows(command: Command, folder: pathlib.Path) -> Iterator[str]:
 
 def main() -> int:
     subprocess.run([TOP / "rtime"], stdout=subprocess.DEVNULL, check=False)  # proved, if it isn't
-    print("| command | metres | steps at most | ratio | time, ratio | start | MB a second |")
+    print("| command | metres | steps at most | ratio | time, ratio | less the start | MB a second |")
     print("|---|---|---|---|---|---|---|")
     with tempfile.TemporaryDirectory() as folder:
         for command in COMMANDS:

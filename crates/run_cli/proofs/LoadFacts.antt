@@ -11,7 +11,7 @@ use Rattle.line_tables.specs.Table.{LineTable}
 use Rattle.stock_tables.specs.StockFile as stock
 use Rattle.stock_tables.specs.Stock.{StockTable}
 use Rattle.stock_tables.specs.declared.StockFault.TheVariants as stock_fault
-use Rattle.run_cli.specs.Answers.{Answer, LineFile, StockFile, WithFile, WithTable}
+use Rattle.run_cli.specs.Answers.{Answer, BothFiles, LineFile, StockFile, WithFile, WithTable}
 use Rattle.run_cli.specs.Ends.{CausedBy}
 use Rattle.run_cli.specs.Files.{Fetched, IsLineOf, IsStockOf, LoadStops, Never, cells_in, cells_read, most_bytes, most_cells}
 use Rattle.run_cli.specs.Statuses.{line_status, status_text, stock_status}
@@ -52,7 +52,7 @@ pub StockFile-never : (file : Option (List ℕ)) (next : StockTable → Answer) 
 StockFile-never file next s t h = WithFile-more 2 file stock_status stock.reading_of Never next s t (λ table n. absurd n) h
 
 pub both-never : (line_file stock_file : Option (List ℕ)) (next : LineTable → StockTable → Answer) (s : Status) (t : List ℕ)
-    → LineFile line_file (λ l. StockFile stock_file Never) s t → LineFile line_file (λ l. StockFile stock_file (next l)) s t
+    → BothFiles line_file stock_file (λ l. Never) s t → BothFiles line_file stock_file next s t
 both-never line_file stock_file next s t h =
     WithFile-more 1 line_file line_status line.reading_of (λ l. StockFile stock_file Never) (λ l. StockFile stock_file (next l)) s t (λ l k. StockFile-never stock_file (next l) s t k) h
 
@@ -87,20 +87,20 @@ Any-second told first second (suc i, name, less, is, absent) = absurd (omega (ar
 -- where a line file is not loaded, nor are it and a stock file
 pub LoadStops-line : (told : Files) (line_name stock_name : List ℕ) (before now : ℕ) (status : Status) (loaded : Result (LineTable × StockTable) Status) → loaded ≡ Err status
     → LoadStops told before now (line_name ∷ []) (λ files. LineFile (files line_name) Never) status
-    → IfErr loaded (LoadStops told before now (line_name ∷ stock_name ∷ []) (λ files. LineFile (files line_name) (λ l. StockFile (files stock_name) Never)))
+    → IfErr loaded (LoadStops told before now (line_name ∷ stock_name ∷ []) (λ files. BothFiles (files line_name) (files stock_name) (λ l. Never)))
 LoadStops-line told line_name stock_name before now status loaded e h =
     rw e (LoadStops-more told (line_name ∷ []) (line_name ∷ stock_name ∷ []) (λ files. LineFile (files line_name) Never)
-    (λ files. LineFile (files line_name) (λ l. StockFile (files stock_name) Never)) before before now status (omega arith) (Any-first told line_name stock_name)
+    (λ files. BothFiles (files line_name) (files stock_name) (λ l. Never)) before before now status (omega arith) (Any-first told line_name stock_name)
     (λ files s t is k. LineFile-never (files line_name) (λ l. StockFile (files stock_name) Never) s t k) h)
 
 -- and where the stock file behind it is not loaded
 pub LoadStops-behind : (told mid : Files) (line_name stock_name : List ℕ) (table : LineTable) (before between now : ℕ) (status : Status) (loaded : Result (LineTable × StockTable) Status) → loaded ≡ Err status
     → IfSome told (λ files. IsLineOf (files line_name) table) → mid ≡ told → before ≤ between
     → LoadStops mid between now (stock_name ∷ []) (λ files. StockFile (files stock_name) Never) status
-    → IfErr loaded (LoadStops told before now (line_name ∷ stock_name ∷ []) (λ files. LineFile (files line_name) (λ l. StockFile (files stock_name) Never)))
+    → IfErr loaded (LoadStops told before now (line_name ∷ stock_name ∷ []) (λ files. BothFiles (files line_name) (files stock_name) (λ l. Never)))
 LoadStops-behind told mid line_name stock_name table before between now status loaded e read m later h =
     rw e (LoadStops-more told (stock_name ∷ []) (line_name ∷ stock_name ∷ []) (λ files. StockFile (files stock_name) Never)
-    (λ files. LineFile (files line_name) (λ l. StockFile (files stock_name) Never)) before between now status later (Any-second told line_name stock_name)
+    (λ files. BothFiles (files line_name) (files stock_name) (λ l. Never)) before between now status later (Any-second told line_name stock_name)
     (λ files s t is k. LineFile-read (files line_name) table (λ l. StockFile (files stock_name) Never) s t (rw is at read) k) (rw m at h))
 
 -- where files are not loaded, the form stops before anything was written
@@ -179,7 +179,7 @@ answers-stock (Some files) name table next s t h answer = StockFile-read (files 
 -- and a line file with a stock file behind it
 pub answers-both : (told : Files) (line_name stock_name : List ℕ) (table : LineTable) (train : StockTable) (next : LineTable → StockTable → Answer) (s : Status) (t : List ℕ)
     → IfSome told (λ files. IsLineOf (files line_name) table) → IfSome told (λ files. IsStockOf (files stock_name) train) → next table train s t
-    → IfSome told (λ files. LineFile (files line_name) (λ l. StockFile (files stock_name) (next l)) s t)
+    → IfSome told (λ files. BothFiles (files line_name) (files stock_name) next s t)
 answers-both None line_name stock_name table train next s t h k answer = tt
 answers-both (Some files) line_name stock_name table train next s t h k answer =
     LineFile-read (files line_name) table (λ l. StockFile (files stock_name) (next l)) s t h (StockFile-read (files stock_name) train (next table) s t k answer)
@@ -190,10 +190,3 @@ cells-most None name table h short = short
 cells-most (Some files) name table h short =
     let cells : cells_in (files name) ≡ table.length = rw (h.there, h.reads) refl in
     omega (arith, cells)
-
--- a line file and a stock file by the words that name them
-pub StopsAs-named : (told : Files) (line_name stock_name line_word stock_word : List ℕ) (next : LineTable → StockTable → Answer) (before now : ℕ) (old new : Option (List ℕ))
-    (stopped : Result (Unit {0}) Status) → line_name ≡ line_word → stock_name ≡ stock_word
-    → IfSome told (λ files. StopsAs (LineFile (files line_name) (λ l. StockFile (files stock_name) (next l))) before now old new stopped)
-    → IfSome told (λ files. StopsAs (LineFile (files line_word) (λ l. StockFile (files stock_word) (next l))) before now old new stopped)
-StopsAs-named told line_name stock_name line_word stock_word next before now old new stopped a b h = rw (a, b) at h

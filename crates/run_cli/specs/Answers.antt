@@ -32,7 +32,8 @@ Refuses status s t = Is status (status_text status) s t
 -- a file, by its number among those of a form: it is not there, or has too many bytes, or its bytes answer
 abbrev pub WithFile : ℕ → Option (List ℕ) → (List ℕ → Answer) → Status → List ℕ → Type 0
 WithFile number None next s t = Refuses ReadFault s t
-WithFile number (Some bytes) next s t = ((most_bytes < length bytes) × Refuses (TooLong number) s t) ⊎ ((length bytes ≤ most_bytes) × next bytes s t)
+WithFile number (Some bytes) next s t =
+    ((most_bytes < length bytes) × Refuses (TooLong number) s t) ⊎ ((length bytes ≤ most_bytes) × next bytes s t)
 
 -- what was read: a fault, or a table that answers
 abbrev pub WithTable : {T E : Type 0} → (E → Status) → Result T E → (T → Answer) → Status → List ℕ → Type 0
@@ -46,6 +47,10 @@ LineFile file next s t = WithFile 1 file (λ bytes. WithTable line_status (line.
 -- a stock file, whose stock answers
 abbrev pub StockFile : Option (List ℕ) → (StockTable → Answer) → Status → List ℕ → Type 0
 StockFile file next s t = WithFile 2 file (λ bytes. WithTable stock_status (stock.reading_of bytes) next) s t
+
+-- a line file and a stock file behind it, whose line and stock answer
+abbrev pub BothFiles : Option (List ℕ) → Option (List ℕ) → (LineTable → StockTable → Answer) → Status → List ℕ → Type 0
+BothFiles line_file stock_file next s t = LineFile line_file (λ line. StockFile stock_file (next line)) s t
 
 -- the braking list of the train on the line, where it stands at both ends
 pub record IsBrakes (line : LineTable) (stock : StockTable) (s : Status) (t : List ℕ) : Type 0 where
@@ -75,12 +80,13 @@ IsEnvelope line stock s t = IsFastestRun line stock s t ⊎ IsStall line stock s
 -- what answers a form, over the files that the words name
 abbrev pub AnswersBy : Option Form → List (List ℕ) → (List ℕ → Option (List ℕ)) → Status → List ℕ → Type 0
 AnswersBy None words files s t = Refuses Usage s t
-AnswersBy (Some (Caps train top)) words files s t = LineFile (files (word words 1)) (λ line. Is Done (caps_text line train top)) s t
-AnswersBy (Some (Rise kmh)) words files s t =
-    LineFile (files (word words 1)) (λ line. StockFile (files (word words 2)) (λ stock. Is Done (rise_text line stock kmh))) s t
-AnswersBy (Some Brakes) words files s t = LineFile (files (word words 1)) (λ line. StockFile (files (word words 2)) (λ stock. IsBrakes line stock)) s t
-AnswersBy (Some Envelope) words files s t = LineFile (files (word words 1)) (λ line. StockFile (files (word words 2)) (λ stock. IsEnvelope line stock)) s t
+AnswersBy (Some (Caps train top)) words files s t =
+    LineFile (files (word words 1)) (λ line. Is Done (caps_text line train top)) s t
 AnswersBy (Some Bands) words files s t = StockFile (files (word words 1)) (λ stock. Is Done (bands_text stock)) s t
+AnswersBy (Some (Rise kmh)) words files s t =
+    BothFiles (files (word words 1)) (files (word words 2)) (λ line stock. Is Done (rise_text line stock kmh)) s t
+AnswersBy (Some Brakes) words files s t = BothFiles (files (word words 1)) (files (word words 2)) IsBrakes s t
+AnswersBy (Some Envelope) words files s t = BothFiles (files (word words 1)) (files (word words 2)) IsEnvelope s t
 
 -- what answers these words over these files
 abbrev pub Answers : List (List ℕ) → (List ℕ → Option (List ℕ)) → Status → List ℕ → Type 0
@@ -93,4 +99,5 @@ pub record IsOneAnswer (s r : Status) (t u : List ℕ) : Type 0 where
 
 -- no words over any files have two answers
 abbrev pub AnswersOnce : Type 0
-AnswersOnce = (words : List (List ℕ)) (files : List ℕ → Option (List ℕ)) (s r : Status) (t u : List ℕ) → Answers words files s t → Answers words files r u → IsOneAnswer s r t u
+AnswersOnce = (words : List (List ℕ)) (files : List ℕ → Option (List ℕ)) (s r : Status) (t u : List ℕ)
+    → Answers words files s t → Answers words files r u → IsOneAnswer s r t u

@@ -11,4 +11,5 @@ use Rattle.run_cli.specs.declared.status.Status.TheVariants.{Done, WriteFault}
 abbrev pub FinishesAs : Result (Unit {0}) Status → Option (List ℕ) → Option (List ℕ) → ℕ → ℕ → Status → Type 0
 FinishesAs (Ok u) old new before now result = (result ≡ Done) × Appends old new []
 FinishesAs (Err status) old new before now result =
-    ((result ≡ status) × Appends old new (status_text status)) ⊎ ((result ≡ WriteFault) × AppendsFront old new (status_text status) × Rose before now)
+    ((result ≡ status) × Appends old new (status_text status))
+    ⊎ ((result ≡ WriteFault) × AppendsFront old new (status_text status) × Rose before now)

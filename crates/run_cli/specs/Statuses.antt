@@ -15,7 +15,8 @@ status_text Memory = []
 status_text Usage = codes "usage\n"
 status_text ReadFault = []
 status_text WriteFault = []
-status_text (Refused file place rule) = codes "refused " ++ decimal file ++ codes " " ++ decimal place ++ codes " " ++ decimal rule ++ codes "\n"
+status_text (Refused file place rule) =
+    codes "refused " ++ decimal file ++ codes " " ++ decimal place ++ codes " " ++ decimal rule ++ codes "\n"
 status_text (Stalled point) = []
 status_text (TooLong file) = codes "too long " ++ decimal file ++ codes "\n"
 

@@ -27,7 +27,8 @@ train_rule line stock = rule_of stock.push.rows stock.brake.rows stock.moved_mas
 
 -- the caps of a train on a line, at both ends of which it stands
 abbrev pub train_caps : LineTable → StockTable → List ℕ
-train_caps line stock = caps_of line.length stock.length stock.top line.limits (record { at = 0; most = 0 } ∷ record { at = line.length; most = 0 } ∷ [])
+train_caps line stock =
+    caps_of line.length stock.length stock.top line.limits (record { at = 0; most = 0 } ∷ record { at = line.length; most = 0 } ∷ [])
 
 -- a cell, the pull there, and the greatest and the least squared speed after it from a squared speed before it
 abbrev pub rise_line : StepRule → List ℤ → ℕ → ℕ → List ℕ
@@ -35,7 +36,8 @@ rise_line rule pulls before cell = numbers_text (pos cell ∷ row pulls cell ∷
 
 -- a line for each cell, from so many km/h, or from the top speed where that is less
 abbrev pub rise_text : LineTable → StockTable → ℕ → List ℕ
-rise_text line stock kmh = lines_below (rise_line (train_rule line stock) (train_pulls line stock) (min (squared stock.top) (squared kmh))) line.length
+rise_text line stock kmh =
+    lines_below (rise_line (train_rule line stock) (train_pulls line stock) (min (squared stock.top) (squared kmh))) line.length
 
 -- the squared speeds of a train that gets over the whole line, or the point that it doesn't get to
 abbrev pub envelope_text : List ℕ → Reach → List ℕ

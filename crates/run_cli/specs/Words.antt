@@ -30,11 +30,15 @@ asks words name count = length words == count && bytes_eq (word words 0) name
 abbrev pub names_two : List (List ℕ) → Bool
 names_two words = is_name (word words 1) && is_name (word words 2)
 
+-- the form `caps`, by the words for the train's length and top speed
+abbrev pub caps_by : List (List ℕ) → Option Form
+caps_by words = caps_of (number_in 1 5000 (word words 2)) (number_in 1 500 (word words 3))
+
 -- the form of the words, if they are one: `caps LINE LENGTH TOP`, of 1 to 5000 m and 1 to 500 km/h; `stock STOCK`;
 -- `rise LINE STOCK KMH`, of 0 to 500 km/h; `brakes LINE STOCK`; `envelope LINE STOCK`
 abbrev pub form_of : List (List ℕ) → Option Form
 form_of words =
-    if asks words (codes "caps") 4 && is_name (word words 1) then caps_of (number_in 1 5000 (word words 2)) (number_in 1 500 (word words 3))
+    if asks words (codes "caps") 4 && is_name (word words 1) then caps_by words
     else if asks words (codes "stock") 2 && is_name (word words 1) then Some Bands
     else if asks words (codes "rise") 4 && names_two words then rise_at (number_in 0 500 (word words 3))
     else if asks words (codes "brakes") 3 && names_two words then Some Brakes

@@ -2,7 +2,7 @@
 
 ghost use Rattle.std.specs.Prelude.{◌≡◌, ◌≤◌, ◌+◌, ◌*◌, ◌∷◌, [], Some, IfOk, IfSome};
 ghost use Rattle.run_rules.specs.Runs.{IsBrakingList};
-ghost use Rattle.run_cli.specs.Answers.{IsBrakes, LineFile, StockFile};
+ghost use Rattle.run_cli.specs.Answers.{BothFiles, IsBrakes};
 ghost use Rattle.run_cli.specs.Files.{most_cells};
 ghost use Rattle.run_cli.specs.Stops.{StopsAs, StopsBy};
 ghost use Rattle.run_cli.specs.Texts.{train_caps, train_rule};
@@ -29,7 +29,7 @@ pub(crate) fn run_brakes<S: Shelf, K: Sink, L: Ledger>(
     stock: &str,
     steps: &mut Steps<L>,
 ) -> Result<(), Status>
-    ensures ends { IfSome (S.files shelf.old) (λ files. StopsAs (LineFile (files line.now) (λ l. StockFile (files stock.now) (λ s. IsBrakes l s))) (S.faults shelf.old) (S.faults shelf.new) (K.written out.old) (K.written out.new) result) }
+    ensures ends { IfSome (S.files shelf.old) (λ files. StopsAs (BothFiles (files line.now) (files stock.now) IsBrakes) (S.faults shelf.old) (S.faults shelf.new) (K.written out.old) (K.written out.new) result) }
     ensures causes { StopsBy (Some Form.Brakes) (line.now ∷ stock.now ∷ []) (S.files shelf.old) (S.faults shelf.old) (S.faults shelf.new) (K.faults out.old) (K.faults out.new) result }
     ensures steps { steps.new ≤ steps.old + most_steps (Some Form.Brakes) (most_cells (S.files shelf.old) line.now) }
 {

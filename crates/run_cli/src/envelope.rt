@@ -7,7 +7,7 @@ ghost use Rattle.run_io.specs.Causes.{HasCause};
 ghost use Rattle.run_io.specs.Writes.{AppendsFront};
 ghost use Rattle.run_rules.specs.Runs.{IsBrakingList, ReachesAs};
 ghost use Rattle.step_rule.specs.Motion.{cells_of, kmh_of, step_rule_of};
-ghost use Rattle.run_cli.specs.Answers.{IsEnvelope, LineFile, StockFile};
+ghost use Rattle.run_cli.specs.Answers.{BothFiles, IsEnvelope};
 ghost use Rattle.run_cli.specs.Files.{most_cells};
 ghost use Rattle.run_cli.specs.Stops.{StopsAs, StopsBy, stopped_by};
 ghost use Rattle.run_cli.specs.Texts.{envelope_text, train_caps, train_rule};
@@ -44,7 +44,7 @@ pub(crate) fn run_envelope<S: Shelf, K: Sink, L: Ledger>(
     stock: &str,
     steps: &mut Steps<L>,
 ) -> Result<(), Status>
-    ensures ends { IfSome (S.files shelf.old) (λ files. StopsAs (LineFile (files line.now) (λ l. StockFile (files stock.now) (λ s. IsEnvelope l s))) (S.faults shelf.old) (S.faults shelf.new) (K.written out.old) (K.written out.new) result) }
+    ensures ends { IfSome (S.files shelf.old) (λ files. StopsAs (BothFiles (files line.now) (files stock.now) IsEnvelope) (S.faults shelf.old) (S.faults shelf.new) (K.written out.old) (K.written out.new) result) }
     ensures causes { StopsBy (Some Form.Envelope) (line.now ∷ stock.now ∷ []) (S.files shelf.old) (S.faults shelf.old) (S.faults shelf.new) (K.faults out.old) (K.faults out.new) result }
     ensures steps { steps.new ≤ steps.old + most_steps (Some Form.Envelope) (most_cells (S.files shelf.old) line.now) }
 {

@@ -1,7 +1,7 @@
 //! The files that a form reads.
 
 ghost use Rattle.std.specs.Prelude.{◌≡◌, ◌≤◌, ◌∷◌, [], IfOk, IfErr, IfSome};
-ghost use Rattle.run_cli.specs.Answers.{LineFile, StockFile};
+ghost use Rattle.run_cli.specs.Answers.{BothFiles, LineFile, StockFile};
 ghost use Rattle.run_cli.specs.Files.{FetchStops, Fetched, IsLineOf, IsStockOf, LoadStops, Never, most_cells};
 
 use crate::Status;
@@ -23,7 +23,7 @@ pub(crate) fn load_both<S: Shelf>(
     ensures line { IfOk result (λ both. IfSome (S.files shelf.old) (λ files. IsLineOf (files line.now) both.0)) }
     ensures stock { IfOk result (λ both. IfSome (S.files shelf.old) (λ files. IsStockOf (files stock.now) both.1)) }
     ensures cells { IfOk result (λ both. both.0.length ≤ most_cells (S.files shelf.old) line.now) }
-    ensures stop { IfErr result (LoadStops (S.files shelf.old) (S.faults shelf.old) (S.faults shelf.new) (line.now ∷ stock.now ∷ []) (λ files. LineFile (files line.now) (λ l. StockFile (files stock.now) Never))) }
+    ensures stop { IfErr result (LoadStops (S.files shelf.old) (S.faults shelf.old) (S.faults shelf.new) (line.now ∷ stock.now ∷ []) (λ files. BothFiles (files line.now) (files stock.now) (λ l. Never))) }
     ensures files { S.files shelf.new ≡ S.files shelf.old }
     ensures later { S.faults shelf.old ≤ S.faults shelf.new }
 {

@@ -8,7 +8,7 @@ ghost use Rattle.run_io.specs.Texts.{lines_below};
 ghost use Rattle.run_io.specs.Writes.{AppendsFront};
 ghost use Rattle.run_rules.specs.Speeds.{squared};
 ghost use Rattle.step_rule.specs.Motion.{cells_of, most_of, step_rule_of};
-ghost use Rattle.run_cli.specs.Answers.{Is, LineFile, StockFile};
+ghost use Rattle.run_cli.specs.Answers.{BothFiles, Is};
 ghost use Rattle.run_cli.specs.Files.{most_cells};
 ghost use Rattle.run_cli.specs.Stops.{StopsAs, StopsBy};
 ghost use Rattle.run_cli.specs.Texts.{rise_line, rise_text};
@@ -39,7 +39,7 @@ pub(crate) fn run_rise<S: Shelf, K: Sink, L: Ledger>(
     steps: &mut Steps<L>,
 ) -> Result<(), Status>
     requires { kmh ≤ 500 }
-    ensures ends { IfSome (S.files shelf.old) (λ files. StopsAs (LineFile (files line.now) (λ l. StockFile (files stock.now) (λ s. Is Status.Done (rise_text l s kmh)))) (S.faults shelf.old) (S.faults shelf.new) (K.written out.old) (K.written out.new) result) }
+    ensures ends { IfSome (S.files shelf.old) (λ files. StopsAs (BothFiles (files line.now) (files stock.now) (λ l s. Is Status.Done (rise_text l s kmh))) (S.faults shelf.old) (S.faults shelf.new) (K.written out.old) (K.written out.new) result) }
     ensures causes { StopsBy (Some (Form.Rise kmh)) (line.now ∷ stock.now ∷ []) (S.files shelf.old) (S.faults shelf.old) (S.faults shelf.new) (K.faults out.old) (K.faults out.new) result }
     ensures steps { steps.new ≤ steps.old + most_steps (Some (Form.Rise kmh)) (most_cells (S.files shelf.old) line.now) }
 {

@@ -2,7 +2,7 @@ use Rattle.std.proofs.Common.{◌≡◌, refl, rules, arith, length, subst}
 use Rattle.line_tables.specs.Table.{IsLine, LineTable}
 use Rattle.stock_tables.specs.Stock.{StockTable}
 use Rattle.step_rule.specs.Motion.{cells_of}
-use Rattle.run_cli.specs.Answers.{Answer, Is, LineFile, StockFile}
+use Rattle.run_cli.specs.Answers.{Answer, BothFiles, Is}
 use Rattle.run_cli.specs.Texts.{rise_text}
 use Rattle.run_cli.specs.declared.status.Status.TheVariants.{Done}
 use Rattle.run_cli.proofs.LoadFacts.{StopsAs-memory, StopsAs-short, StopsAs-whole, answers-both}
@@ -11,12 +11,12 @@ use Rattle.run_cli.proofs.rises.run_rise.Goals as goal
 
 pub returns-in_err-pulls-clause-ends : goal.returns-in_err-pulls-clause-ends
 returns-in_err-pulls-clause-ends g c =
-    StopsAs-memory (g.S.Shelf.files c.args.shelf.now) (λ files. LineFile (files c.args.line.now) (λ l. StockFile (files c.args.stock.now) (λ s. Is Done (rise_text l s c.args.kmh))))
+    StopsAs-memory (g.S.Shelf.files c.args.shelf.now) (λ files. BothFiles (files c.args.line.now) (files c.args.stock.now) (λ l s. Is Done (rise_text l s c.args.kmh)))
     (g.S.Shelf.faults c.args.shelf.now) (g.S.Shelf.faults c.load_both.new.shelf) (g.K.Sink.written c.args.out.now) c.from_residual-in_err-pulls.result (search rules)
 
 pub returns-in_err-shown-clause-ends : goal.returns-in_err-shown-clause-ends
 returns-in_err-shown-clause-ends g c =
-    StopsAs-memory (g.S.Shelf.files c.args.shelf.now) (λ files. LineFile (files c.args.line.now) (λ l. StockFile (files c.args.stock.now) (λ s. Is Done (rise_text l s c.args.kmh))))
+    StopsAs-memory (g.S.Shelf.files c.args.shelf.now) (λ files. BothFiles (files c.args.line.now) (files c.args.stock.now) (λ l s. Is Done (rise_text l s c.args.kmh)))
     (g.S.Shelf.faults c.args.shelf.now) (g.S.Shelf.faults c.load_both.new.shelf) (g.K.Sink.written c.args.out.now) c.from_residual-in_err-shown.result (search rules)
 
 pub rule_of-rule-requires-clause-least : goal.rule_of-rule-requires-clause-least
@@ -36,7 +36,7 @@ returns-in_err-write_rise-clause-ends g c =
     let next : LineTable → StockTable → Answer = λ l s. Is Done (rise_text l s c.args.kmh) in
     let text = lines_below-rise_line c.in_ok-line.line c.in_ok-line.stock c.args.kmh c.rule_of-rule.result c.in_ok-pulls.pulls.items c.as_slice-2.result.now c.min-before.result
     (search rules) c.rule_of-rule.ensures (search rules) (search rules) in
-    StopsAs-short (g.S.Shelf.files c.args.shelf.now) (λ files. LineFile (files c.args.line.now) (λ l. StockFile (files c.args.stock.now) (next l))) Done
+    StopsAs-short (g.S.Shelf.files c.args.shelf.now) (λ files. BothFiles (files c.args.line.now) (files c.args.stock.now) next) Done
     (rise_text c.in_ok-line.line c.in_ok-line.stock c.args.kmh) (g.S.Shelf.faults c.args.shelf.now) (g.S.Shelf.faults c.load_both.new.shelf) (g.K.Sink.written c.args.out.now)
     (g.K.Sink.written c.write_rise.new.out) c.from_residual-in_err-write_rise.result
     (answers-both (g.S.Shelf.files c.args.shelf.now) c.args.line.now c.args.stock.now c.in_ok-line.line c.in_ok-line.stock next Done (rise_text c.in_ok-line.line c.in_ok-line.stock c.args.kmh)
@@ -55,7 +55,7 @@ returns-clause-ends g c =
     let next : LineTable → StockTable → Answer = λ l s. Is Done (rise_text l s c.args.kmh) in
     let text = lines_below-rise_line c.in_ok-line.line c.in_ok-line.stock c.args.kmh c.rule_of-rule.result c.in_ok-pulls.pulls.items c.as_slice-2.result.now c.min-before.result
     (search rules) c.rule_of-rule.ensures (search rules) (search rules) in
-    StopsAs-whole (g.S.Shelf.files c.args.shelf.now) (λ files. LineFile (files c.args.line.now) (λ l. StockFile (files c.args.stock.now) (next l)))
+    StopsAs-whole (g.S.Shelf.files c.args.shelf.now) (λ files. BothFiles (files c.args.line.now) (files c.args.stock.now) next)
     (rise_text c.in_ok-line.line c.in_ok-line.stock c.args.kmh) (g.S.Shelf.faults c.args.shelf.now) (g.S.Shelf.faults c.load_both.new.shelf) (g.K.Sink.written c.args.out.now)
     (g.K.Sink.written c.write_rise.new.out)
     (answers-both (g.S.Shelf.files c.args.shelf.now) c.args.line.now c.args.stock.now c.in_ok-line.line c.in_ok-line.stock next Done (rise_text c.in_ok-line.line c.in_ok-line.stock c.args.kmh)
