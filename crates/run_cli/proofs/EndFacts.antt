@@ -1,5 +1,5 @@
 -- How a run ends, by where its form stopped.
-use Rattle.std.proofs.Common.{◌≡◌, ◌≤◌, ◌<◌, ◌⊎◌, ℕ, List, [], ◌∷◌, length, take, map, get_or, zero, suc, Option, Some, None, Result, Ok, Err, IfSome, IfErr, refl, sym, ap, subst, inl, inr, arith}
+use Rattle.std.proofs.Common.{◌≡◌, ◌≤◌, ◌<◌, ◌⊎◌, ℕ, List, [], ◌∷◌, length, take, map, get_or, zero, suc, Option, Some, None, Result, Ok, Err, IfSome, refl, sym, ap, subst, inl, inr, arith}
 use Rattle.std.proofs.lemmas.List.{append-nil}
 use Rattle.std.proofs.lemmas.Grind.{common_steps}
 use Rattle.std.specs.Io.KnownBytes.{Appends}
@@ -7,7 +7,7 @@ use Rattle.run_io.specs.Causes.{Rose}
 use Rattle.run_io.specs.Fetches.{Files}
 use Rattle.run_io.specs.Writes.{AppendsFront}
 use Rattle.run_io.proofs.Written.{Appends-trans}
-use Rattle.run_cli.specs.Ends.{CausedBy, EndsAs, EndsShort, EndsWhole, IsQuiet}
+use Rattle.run_cli.specs.Ends.{EndsAs, EndsShort, EndsWhole, IsQuiet}
 use Rattle.run_cli.specs.Finishes.{FinishesAs}
 use Rattle.run_cli.specs.Statuses.{status_text}
 use Rattle.run_cli.specs.Stops.{StopsAs, StopsBefore, StopsBy}

@@ -1,6 +1,6 @@
 pub mod EndFacts
 pub mod LoadFacts
 pub mod RiseFacts
-pub mod BrakeFacts
+pub mod WalkFacts
 pub mod EnvelopeFacts
 pub mod OnceFacts

@@ -1,5 +1,5 @@
 -- Files that are loaded, and why others are not.
-use Rattle.std.proofs.Common.{◌≡◌, ◌≤◌, ℕ, zero, suc, List, [], ◌∷◌, length, Option, Some, None, Result, Ok, Err, IfErr, IfSome, refl, sym, subst, inl, inr, arith}
+use Rattle.std.proofs.Common.{◌≡◌, ◌≤◌, ℕ, zero, suc, List, [], ◌∷◌, length, Option, Some, None, Result, Ok, Err, IfErr, IfSome, refl, sym, inl, inr, arith}
 use Rattle.std.specs.Prelude.{Any}
 use Rattle.std.specs.Io.KnownBytes.{Appends}
 use Rattle.run_io.specs.Fetches.{Files, IsAbsent}
@@ -12,13 +12,11 @@ use Rattle.stock_tables.specs.StockFile as stock
 use Rattle.stock_tables.specs.Stock.{StockTable}
 use Rattle.stock_tables.specs.declared.StockFault.TheVariants as stock_fault
 use Rattle.run_cli.specs.Answers.{Answer, BothFiles, LineFile, StockFile, WithFile, WithTable}
-use Rattle.run_cli.specs.Ends.{CausedBy}
-use Rattle.run_cli.specs.Files.{Fetched, IsLineOf, IsStockOf, LoadStops, Never, cells_in, cells_read, most_bytes, most_cells}
+use Rattle.run_cli.specs.Files.{Fetched, IsLineOf, IsStockOf, LoadStops, Never, cells_in, most_bytes, most_cells}
 use Rattle.run_cli.specs.Statuses.{line_status, status_text, stock_status}
-use Rattle.run_cli.specs.Stops.{StopsAs, StopsBy}
+use Rattle.run_cli.specs.Stops.{StopsAs}
 use Rattle.run_cli.specs.declared.status.Status.{Status}
 use Rattle.run_cli.specs.declared.status.Status.TheVariants.{Done, Memory, Usage, ReadFault, WriteFault, Refused, Stalled, TooLong}
-use Rattle.run_cli.specs.declared.words.Form.{Form}
 
 -- a file that is there and was read answers as its table does
 WithFile-read : {T E : Type 0} (number : ℕ) (file : Option (List ℕ)) (bytes : List ℕ) (status : E → Status) (reading : List ℕ → Result T E) (table : T) (next : T → Answer) (s : Status) (t : List ℕ)
@@ -44,17 +42,9 @@ WithFile-more number None status reading next more s t f h = h
 WithFile-more number (Some bytes) status reading next more s t f (inl h) = inl h
 WithFile-more number (Some bytes) status reading next more s t f (inr h) = inr (h.0, WithTable-more status (reading bytes) next more s t f h.1)
 
--- so what refuses files whatever comes next refuses them here
+-- so what refuses a line file whatever comes next refuses it here
 pub LineFile-never : (file : Option (List ℕ)) (next : LineTable → Answer) (s : Status) (t : List ℕ) → LineFile file Never s t → LineFile file next s t
 LineFile-never file next s t h = WithFile-more 1 file line_status line.reading_of Never next s t (λ table n. absurd n) h
-
-pub StockFile-never : (file : Option (List ℕ)) (next : StockTable → Answer) (s : Status) (t : List ℕ) → StockFile file Never s t → StockFile file next s t
-StockFile-never file next s t h = WithFile-more 2 file stock_status stock.reading_of Never next s t (λ table n. absurd n) h
-
-pub both-never : (line_file stock_file : Option (List ℕ)) (next : LineTable → StockTable → Answer) (s : Status) (t : List ℕ)
-    → BothFiles line_file stock_file (λ l. Never) s t → BothFiles line_file stock_file next s t
-both-never line_file stock_file next s t h =
-    WithFile-more 1 line_file line_status line.reading_of (λ l. StockFile stock_file Never) (λ l. StockFile stock_file (next l)) s t (λ l k. StockFile-never stock_file (next l) s t k) h
 
 -- why files are not loaded, among more files and over more time
 LoadStops-more : (told : Files) (names more : List (List ℕ)) (refuses answers : (List ℕ → Option (List ℕ)) → Answer) (before between now : ℕ) (status : Status) → before ≤ between
@@ -102,41 +92,6 @@ LoadStops-behind told mid line_name stock_name table before between now status l
     rw e (LoadStops-more told (stock_name ∷ []) (line_name ∷ stock_name ∷ []) (λ files. StockFile (files stock_name) Never)
     (λ files. BothFiles (files line_name) (files stock_name) (λ l. Never)) before between now status later (Any-second told line_name stock_name)
     (λ files s t is k. LineFile-read (files line_name) table (λ l. StockFile (files stock_name) Never) s t (rw is at read) k) (rw m at h))
-
--- where files are not loaded, the form stops before anything was written
-pub StopsAs-unloaded : (told : Files) (names : List (List ℕ)) (refuses answers : (List ℕ → Option (List ℕ)) → Answer) (before now : ℕ) (old : Option (List ℕ)) (status : Status)
-    (stopped : Result (Unit {0}) Status) → ((files : List ℕ → Option (List ℕ)) (s : Status) (t : List ℕ) → refuses files s t → answers files s t)
-    → LoadStops told before now names refuses status → stopped ≡ Err status → IfSome told (λ files. StopsAs (answers files) before now old old stopped)
-StopsAs-unloaded told names refuses answers before now old status stopped f h e = rw e (at told status h)
-  where
-    at : (told : Files) (status : Status) → LoadStops told before now names refuses status → IfSome told (λ files. StopsAs (answers files) before now old old (Err status))
-    at None status h = tt
-    at (Some files) Memory h = inl (Appends-nil old)
-    at (Some files) ReadFault (inl rose) = record { reason = inl rose; unwritten = Appends-nil old }
-    at (Some files) ReadFault (inr h) = record { reason = inr (f files ReadFault [] h.1); unwritten = Appends-nil old }
-    at (Some files) (TooLong file) h = record { answer = f files (TooLong file) (status_text (TooLong file)) h; unwritten = Appends-nil old }
-    at (Some files) (Refused file place rule) h =
-        record { answer = f files (Refused file place rule) (status_text (Refused file place rule)) h; unwritten = Appends-nil old }
-    at (Some files) Done h = absurd h
-    at (Some files) Usage h = absurd h
-    at (Some files) WriteFault h = absurd h
-    at (Some files) (Stalled point) h = absurd h
-
--- and the status has its cause
-pub StopsBy-unloaded : (form : Option Form) (told : Files) (names : List (List ℕ)) (refuses : (List ℕ → Option (List ℕ)) → Answer) (before now sink : ℕ) (status : Status)
-    (stopped : Result (Unit {0}) Status) → LoadStops told before now names refuses status → stopped ≡ Err status → StopsBy form names told before now sink sink stopped
-StopsBy-unloaded form told names refuses before now sink status stopped h e = rw e (record { later = omega arith; cause = at status h })
-  where
-    at : (t : Status) → LoadStops told before now names refuses t → CausedBy form names told before now sink sink t
-    at Memory h = tt
-    at ReadFault (inl rose) = inl rose
-    at ReadFault (inr h) = inr h.0
-    at (TooLong file) h = tt
-    at (Refused file place rule) h = tt
-    at Done h = absurd h
-    at Usage h = absurd h
-    at WriteFault h = absurd h
-    at (Stalled point) h = absurd h
 
 -- want of memory before anything was written
 pub StopsAs-memory : (told : Files) (answers : (List ℕ → Option (List ℕ)) → Answer) (before now : ℕ) (old : Option (List ℕ)) (stopped : Result (Unit {0}) Status)

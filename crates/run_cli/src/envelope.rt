@@ -2,11 +2,9 @@
 
 ghost use Rattle.std.specs.Prelude.{◌≡◌, ◌≤◌, ◌+◌, ◌*◌, ◌∷◌, [], Some, OnOk, OnErr, IfOk, IfSome};
 ghost use Rattle.std.specs.Io.KnownBytes.{Appends};
-ghost use Rattle.limit_profile.specs.Profile.{caps};
 ghost use Rattle.run_io.specs.Causes.{HasCause};
 ghost use Rattle.run_io.specs.Writes.{AppendsFront};
-ghost use Rattle.run_rules.specs.Runs.{IsBrakingList, ReachesAs};
-ghost use Rattle.step_rule.specs.Motion.{cells_of, kmh_of, step_rule_of};
+ghost use Rattle.run_rules.specs.Runs.{ReachesAs};
 ghost use Rattle.run_cli.specs.Answers.{BothFiles, IsEnvelope};
 ghost use Rattle.run_cli.specs.Files.{most_cells};
 ghost use Rattle.run_cli.specs.Stops.{StopsAs, StopsBy, stopped_by};
@@ -18,13 +16,11 @@ use crate::files::load_both;
 use crate::motion::{braking_list, rule_on, standing_limits};
 use crate::words::Form;
 use effort_run::walk_on;
-use limit_profile::Limits;
 use line_tables::Line;
 use report_text::{write_list, write_reach};
 use run_io::{Failed, Shelf, Sink};
 use std::alloc::Global;
 use std::sync::ledger::Ledger;
-use step_rule::Rule;
 use stock_tables::Stock;
 use unit_rules::{Memory, Reach, Steps};
 
@@ -67,28 +63,10 @@ fn standing_envelope<L: Ledger>(
     let limits = standing_limits(alloc, line, &stock)?;
     let rule = rule_on(alloc, line, stock)?;
     let brakes = braking_list(alloc, &rule, &limits, steps)?;
-    envelope_under(alloc, &rule, &limits, &brakes, steps)
-}
-
-// The envelope under a rule and limits, of which these are the brakes.
-fn envelope_under<L: Ledger>(
-    alloc: Global,
-    rule: &Rule,
-    limits: &Limits,
-    brakes: &[u32],
-    steps: &mut Steps<L>,
-) -> Result<Envelope, Memory>
-    requires same_length { limits.now.length ≡ cells_of rule.now }
-    requires same_top { limits.now.top ≡ kmh_of rule.now }
-    requires brakes { IsBrakingList (step_rule_of rule.now) (caps limits.now) brakes.now }
-    ensures envelope { IfOk result (λ envelope. ReachesAs (step_rule_of rule.now) (caps limits.now) envelope.speeds.items envelope.reach) }
-    ensures steps { steps.new ≤ steps.old + cells_of rule.now }
-{
-    let cells = rule.cells();
-    let Ok(mut speeds) = Vec::from_elem(alloc, 0, cells as usize + 1) else {
+    let Ok(mut speeds) = Vec::from_elem(alloc, 0, brakes.len()) else {
         return Err(Memory);
     };
-    let walk = walk_on(rule, brakes, 0, cells, &mut speeds, 0, steps);
+    let walk = walk_on(&rule, &brakes, 0, rule.cells(), &mut speeds, 0, steps);
     Ok(Envelope {
         reach: walk.reach,
         speeds,

@@ -1,18 +1,10 @@
-use Rattle.std.proofs.Common.{◌∷◌, [], refl, rules}
+use Rattle.std.proofs.Common.{refl, rules}
 use Rattle.stock_tables.specs.Stock.{StockTable}
 use Rattle.report_text.specs.Texts.{bands_text}
 use Rattle.run_cli.specs.Answers.{Answer, Is, StockFile}
-use Rattle.run_cli.specs.Files.{Never}
 use Rattle.run_cli.specs.declared.status.Status.TheVariants.{Done}
-use Rattle.run_cli.proofs.LoadFacts.{StockFile-never, StopsAs-short, StopsAs-unloaded, answers-stock}
+use Rattle.run_cli.proofs.LoadFacts.{StopsAs-short, answers-stock}
 use Rattle.run_cli.proofs.bands.run_stock.Goals as goal
-
-pub returns-in_err-stock-clause-ends : goal.returns-in_err-stock-clause-ends
-returns-in_err-stock-clause-ends g c =
-    let next : StockTable → Answer = λ stock. Is Done (bands_text stock) in
-    StopsAs-unloaded (g.S.Shelf.files c.args.shelf.now) (c.args.name.now ∷ []) (λ files. StockFile (files c.args.name.now) Never) (λ files. StockFile (files c.args.name.now) next)
-    (g.S.Shelf.faults c.args.shelf.now) (g.S.Shelf.faults c.load_stock.new.shelf) (g.K.Sink.written c.args.out.now) c.in_err-stock.field-0.0 c.from_residual.result
-    (λ files s t h. StockFile-never (files c.args.name.now) next s t h) c.in_err-stock.ensures.stop (search rules)
 
 pub returns-in_err-write_bands-clause-ends : goal.returns-in_err-write_bands-clause-ends
 returns-in_err-write_bands-clause-ends g c =

@@ -1,4 +1,4 @@
-use Rattle.std.proofs.Common.{arith, refl, rules}
+use Rattle.std.proofs.Common.{refl, rules}
 use Rattle.report_text.specs.Texts.{list_text}
 use Rattle.run_cli.specs.Answers.{BothFiles, IsBrakes}
 use Rattle.run_cli.specs.declared.status.Status.TheVariants.{Done}

@@ -1,20 +1,12 @@
-use Rattle.std.proofs.Common.{◌≡◌, ◌∷◌, [], refl, rules}
+use Rattle.std.proofs.Common.{◌≡◌, [], refl, rules}
 use Rattle.line_tables.specs.Table.{LineTable}
 use Rattle.report_text.specs.Texts.{list_text}
 use Rattle.run_rules.specs.Caps.{caps_of}
 use Rattle.run_cli.specs.Answers.{Answer, Is, LineFile}
-use Rattle.run_cli.specs.Files.{Never}
 use Rattle.run_cli.specs.Texts.{caps_text}
 use Rattle.run_cli.specs.declared.status.Status.TheVariants.{Done}
-use Rattle.run_cli.proofs.LoadFacts.{LineFile-never, StopsAs-memory, StopsAs-short, StopsAs-unloaded, answers-line}
+use Rattle.run_cli.proofs.LoadFacts.{StopsAs-memory, StopsAs-short, answers-line}
 use Rattle.run_cli.proofs.caps.run_caps.Goals as goal
-
-pub returns-in_err-line-clause-ends : goal.returns-in_err-line-clause-ends
-returns-in_err-line-clause-ends g c =
-    let next : LineTable → Answer = λ line. Is Done (caps_text line c.args.train c.args.top) in
-    StopsAs-unloaded (g.S.Shelf.files c.args.shelf.now) (c.args.name.now ∷ []) (λ files. LineFile (files c.args.name.now) Never) (λ files. LineFile (files c.args.name.now) next)
-    (g.S.Shelf.faults c.args.shelf.now) (g.S.Shelf.faults c.load_line.new.shelf) (g.K.Sink.written c.args.out.now) c.in_err-line.field-0.0 c.from_residual.result
-    (λ files s t h. LineFile-never (files c.args.name.now) next s t h) c.in_err-line.ensures.stop (search rules)
 
 pub returns-in_err-caps-clause-ends : goal.returns-in_err-caps-clause-ends
 returns-in_err-caps-clause-ends g c =

@@ -1,5 +1,5 @@
 use Rattle.std.proofs.Common.{rules}
-use Rattle.run_cli.proofs.BrakeFacts.{take-written}
+use Rattle.run_cli.proofs.WalkFacts.{take-written}
 use Rattle.run_cli.proofs.motion.braking_list.Goals as goal
 
 pub returns-clause-list : goal.returns-clause-list
