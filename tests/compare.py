@@ -6,7 +6,7 @@
 draws COUNT lines and trains from SEED, the same ones at each run, asks the program for `stock`, `caps`,
 `rise`, `brakes` and `envelope` over each, and compares whole outputs and exit statuses with what the
 model says. It compares as well how `stock` refuses trains that break a law of their tables, and all
-commands over the example line. At the end it prints how many of the trains drawn ran the whole line and
+commands over the lines and trains of examples/. At the end it prints how many of the trains drawn ran the whole line and
 how many were stalled. tests/run.py makes the same comparisons with the COUNT and SEED below.
 """
 
@@ -28,7 +28,8 @@ from model import Drive, Line, Row, Train, Zone, between, caps_of, squared
 
 TOP = pathlib.Path(__file__).resolve().parent.parent
 PROGRAM = TOP / "crates" / "rtime" / "out" / "rtime"
-EXAMPLE = TOP / "examples" / "lauter"
+EXAMPLES = TOP / "examples"
+TRAINS = {"lauter": ["railcar"], "eschenjoch": ["emu", "freight", "heavy"]}  # by their line
 SECONDS = 60
 COUNT = 300
 SEED = 4
@@ -347,12 +348,16 @@ def compared(
     return name, not any(differences), "".join(differences) + contents
 
 
-def example() -> Result:
-    """Compares what is said of the example train on the example line."""
-    files = {"line.csv": EXAMPLE / "line.csv", "train.toml": EXAMPLE / "railcar.toml"}
-    texts = {name: path.read_text() for name, path in files.items()}
-    journey = Journey(read_line(texts["line.csv"]), read_train(texts["train.toml"]), 60)
-    return compared("the example", texts, journey.answers())
+def examples() -> Iterator[Result]:
+    """Compares what is said of the example trains on their lines."""
+    for line, trains in TRAINS.items():
+        for train in trains:
+            files = {
+                "line.csv": (EXAMPLES / line / "line.csv").read_text(),
+                "train.toml": (EXAMPLES / line / f"{train}.toml").read_text(),
+            }
+            journey = Journey(read_line(files["line.csv"]), read_train(files["train.toml"]), 60)
+            yield compared(f"{train} on {line}", files, journey.answers())
 
 
 def refusals(random: Random, count: int) -> Iterator[Result]:
@@ -379,7 +384,7 @@ def comparisons(
         kinds.update(drawn.kinds())
         yield compared(f"drawn {number}", drawn.files(), drawn.answers())
     yield from refusals(random, count // 5)
-    yield example()
+    yield from examples()
     if count >= COUNT:
         missing = [kind for kind in KINDS if not kinds[kind]]
         yield "all kinds of trains are drawn", not missing, f"  none is {missing}\n"
