@@ -1,7 +1,7 @@
 """A model of rtime, written from docs/METHOD.md alone, against which compare.py holds the program.
 
 It is meant to be checked against METHOD.md section by section, so it states the definitions and seeks
-no speed: a run is found by lowering the caps until every clause is kept, not by walks along the line.
+no speed: a run is found by lowering the caps, in passes along the line, until no clause lowers any more.
 
 Units: places in m, speeds in km/h, squared speeds `u` in (0.01 km/h)², forces in N (resistance in mN),
 masses in kg, braking rates in mm/s², gradients in tenths of a per mille. Push and pull are in units of

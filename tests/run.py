@@ -15,7 +15,10 @@ Each file of tests/cases/ is TOML and has tables `[[case]]` with
     spans   the output as runs of points with one text: [[first, last, "text"], ..]; after the lines
             of `head`, where the case has these, or
     begins  the lines with which the output begins, and
-    has     the list of whole lines that stand in the output, anywhere
+    has     the list of whole lines that stand in the output, in that order; where the command prints a
+            line for each point, its lines are also those of the points 0, 1, 2 and so on
+
+Standard error counts as output. A case with other keys, or with two ways to say its output, is refused.
 
 and tables `[[table]]`, each with `words`, `name`, the name `file` of one file, and `rows` of three:
 the content of the file (records parted by ` / `), the output in the same way, and the status. Beside
@@ -42,6 +45,9 @@ import compare
 
 TOP = pathlib.Path(__file__).resolve().parent.parent
 SECONDS = 60
+KEYS = {"name", "words", "files", "input", "stdout", "status", "head"}
+WAYS = ({"output"}, {"spans"}, {"begins"}, {"has"}, {"begins", "has"})
+OF_POINTS = {"caps", "brakes", "envelope"}
 
 
 def content_of(given):
@@ -69,13 +75,29 @@ def output_of(case):
     return (case.get("head", "") + "".join(lines)).encode()
 
 
+def are_points(lines):
+    """Whether lines are those of the points 0, 1, 2 and so on."""
+    return all(line.split(" ")[0] == str(point) for point, line in enumerate(lines))
+
+
 def is_wanted(case, output):
     """Whether an output is one that a case wants."""
     if "begins" not in case and "has" not in case:
         return output == output_of(case)
-    lines = output.split(b"\n")
-    begins = output.startswith(case.get("begins", "").encode())
-    return begins and all(line.encode() in lines[:-1] for line in case.get("has", []))
+    text = output.decode()
+    lines = text.splitlines()
+    left = iter(lines)
+    has = text.endswith("\n") and all(line in left for line in case.get("has", []))
+    of_points = case["words"][0] not in OF_POINTS or are_points(lines)
+    return text.startswith(case.get("begins", "")) and has and of_points
+
+
+def checked(case):
+    """The case, where it has known keys alone and says its output in one way."""
+    ways = case.keys() - KEYS
+    if ways not in WAYS:
+        sys.exit(f"{case['name']}: it says its output by {sorted(ways)}")
+    return case
 
 
 def wanted_of(case):
@@ -121,10 +143,10 @@ def case_of(table, content, output, status):
 def cases_of(path):
     """The cases of a file, each row of a table as one."""
     tables = tomllib.loads(path.read_text())
-    yield from tables.get("case", [])
+    yield from map(checked, tables.get("case", []))
     for table in tables.get("table", []):
         for row in table["rows"]:
-            yield case_of(table, *row)
+            yield checked(case_of(table, *row))
 
 
 def run(case, folder):
@@ -135,11 +157,14 @@ def run(case, folder):
     stdin = case.get("input", "").encode()
     stdout = case.get("stdout")
     if stdout is None:
-        ended = subprocess.run(words, cwd=folder, input=stdin, stdout=subprocess.PIPE, timeout=SECONDS)
+        pipes = {"stdout": subprocess.PIPE, "stderr": subprocess.STDOUT}
+        ended = subprocess.run(words, cwd=folder, input=stdin, timeout=SECONDS, **pipes)
         return ended.returncode, ended.stdout
     shell = ["bash", "-c", 'exec "$@" >&-' if stdout == "closed" else f'exec "$@" >{stdout}', "bash"]
-    ended = subprocess.run([*shell, *words], cwd=folder, input=stdin, timeout=SECONDS)
-    return ended.returncode, b""
+    ended = subprocess.run(
+        [*shell, *words], cwd=folder, input=stdin, stderr=subprocess.PIPE, timeout=SECONDS
+    )
+    return ended.returncode, ended.stderr
 
 
 def shown(text):
@@ -162,14 +187,8 @@ def case_results():
 
 
 def main():
-    subprocess.run([str(TOP / "rtime")], stdout=subprocess.DEVNULL, check=False)
-    counts = {True: 0, False: 0}
-    for name, passed, detail in itertools.chain(case_results(), compare.comparisons()):
-        counts[passed] += 1
-        if not passed:
-            print(f"FAILED {name}\n{detail}", end="")
-    print(f"{counts[True]} passed, {counts[False]} failed")
-    return 1 if counts[False] or not counts[True] else 0
+    compare.build()
+    return 0 if compare.report(itertools.chain(case_results(), compare.comparisons())) else 1
 
 
 if __name__ == "__main__":

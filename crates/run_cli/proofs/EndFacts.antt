@@ -7,7 +7,7 @@ use Rattle.run_io.specs.Causes.{Rose}
 use Rattle.run_io.specs.Fetches.{Files}
 use Rattle.run_io.specs.Writes.{AppendsFront}
 use Rattle.run_io.proofs.Written.{Appends-trans}
-use Rattle.run_cli.specs.Ends.{EndsAs, EndsShort, EndsWhole, IsQuiet}
+use Rattle.run_cli.specs.Ends.{CausedBy, EndsAs, EndsCut, EndsWhole, IsQuiet}
 use Rattle.run_cli.specs.Finishes.{FinishesAs}
 use Rattle.run_cli.specs.Statuses.{status_text}
 use Rattle.run_cli.specs.Stops.{StopsAs, StopsBefore, StopsBy}
@@ -17,21 +17,21 @@ use Rattle.run_cli.specs.declared.status.Status.{Status}
 use Rattle.run_cli.specs.declared.status.Status.TheVariants.{Done, Memory, Usage, ReadFault, WriteFault, Refused, Stalled, TooLong}
 
 -- the text of a status, or a front of it, behind nothing
-EndsAs-text : (answers : Status → List ℕ → Type 0) (status : Status) (a b c : Option (List ℕ)) (before now : ℕ) (result : Status)
-    → StopsBefore answers status a b → (EndsWhole answers status a c → EndsAs answers a c status)
-    → ((result ≡ status) × Appends b c (status_text status)) ⊎ ((result ≡ WriteFault) × AppendsFront b c (status_text status) × Rose before now) → EndsAs answers a c result
-EndsAs-text answers status a b c before now result stop whole (inl h) =
-    subst (λ (r : Status). EndsAs answers a c r) (sym h.0) (whole (record { text = status_text status; answer = stop.answer; written = Appends-trans a b c [] (status_text status) stop.unwritten h.1 }))
-EndsAs-text answers status a b c before now result stop whole (inr h) =
+EndsAs-text : (answers : Status → List ℕ → Type 0) (shelf shelf' : ℕ) (status : Status) (a b c : Option (List ℕ)) (before now : ℕ) (result : Status)
+    → StopsBefore answers status a b → (EndsWhole answers status a c → EndsAs answers shelf shelf' a c status)
+    → ((result ≡ status) × Appends b c (status_text status)) ⊎ ((result ≡ WriteFault) × AppendsFront b c (status_text status) × Rose before now) → EndsAs answers shelf shelf' a c result
+EndsAs-text answers shelf shelf' status a b c before now result stop whole (inl h) =
+    subst (λ (r : Status). EndsAs answers shelf shelf' a c r) (sym h.0) (whole (record { text = status_text status; answer = stop.answer; written = Appends-trans a b c [] (status_text status) stop.unwritten h.1 }))
+EndsAs-text answers shelf shelf' status a b c before now result stop whole (inr h) =
     let front = h.1 in
-    subst (λ (r : Status). EndsAs answers a c r) (sym h.0)
+    subst (λ (r : Status). EndsAs answers shelf shelf' a c r) (sym h.0)
     (inr (record { status = status; text = status_text status; answer = stop.answer; written = (front.0, front.1, Appends-trans a b c [] (take front.0 (status_text status)) stop.unwritten front.2) }))
 
 -- nothing behind what a status that has no text of its own left
 Appends-none : (a b c : Option (List ℕ)) (xs : List ℕ) → Appends a b xs → Appends b c [] → Appends a c xs
 Appends-none a b c xs p q = subst (λ (l : List ℕ). Appends a c l) (append-nil xs) (Appends-trans a b c xs [] p q)
 
-EndsShort-none : (answers : Status → List ℕ → Type 0) (a b c : Option (List ℕ)) → Appends a b [] ⊎ EndsShort answers a b → Appends b c [] → Appends a c [] ⊎ EndsShort answers a c
+EndsShort-none : (answers : Status → List ℕ → Type 0) (a b c : Option (List ℕ)) → EndsCut answers a b → Appends b c [] → EndsCut answers a c
 EndsShort-none answers a b c (inl h) q = inl (Appends-none a b c [] h q)
 EndsShort-none answers a b c (inr h) q =
     let front = h.written in
@@ -58,39 +58,39 @@ either_way status b c before now result e (inr h) = (inr h.0, Appends-front_none
 
 -- a run ends as its form stopped and its status was written
 pub EndsAs-finish : (answers : Status → List ℕ → Type 0) (shelf shelf' : ℕ) (a b c : Option (List ℕ)) (before now : ℕ) (stopped : Result (Unit {0}) Status) (result : Status)
-    → StopsAs answers shelf shelf' a b stopped → FinishesAs stopped b c before now result → EndsAs answers a c result
+    → StopsAs answers shelf shelf' a b stopped → FinishesAs stopped b c before now result → EndsAs answers shelf shelf' a c result
 EndsAs-finish answers shelf shelf' a b c before now (Ok u) result s f =
-    subst (λ (r : Status). EndsAs answers a c r) (sym f.0) (record { text = s.text; answer = s.answer; written = Appends-none a b c s.text s.written f.1 })
+    subst (λ (r : Status). EndsAs answers shelf shelf' a c r) (sym f.0) (record { text = s.text; answer = s.answer; written = Appends-none a b c s.text s.written f.1 })
 EndsAs-finish answers shelf shelf' a b c before now (Err Memory) result s f = by (either_way Memory b c before now result refl f)
   where
-    by : ((result ≡ Memory) ⊎ (result ≡ WriteFault)) × Appends b c [] → EndsAs answers a c result
-    by (inl e, q) = subst (λ (r : Status). EndsAs answers a c r) (sym e) (EndsShort-none answers a b c s q)
-    by (inr e, q) = subst (λ (r : Status). EndsAs answers a c r) (sym e) (EndsShort-none answers a b c s q)
+    by : ((result ≡ Memory) ⊎ (result ≡ WriteFault)) × Appends b c [] → EndsAs answers shelf shelf' a c result
+    by (inl e, q) = subst (λ (r : Status). EndsAs answers shelf shelf' a c r) (sym e) (EndsShort-none answers a b c s q)
+    by (inr e, q) = subst (λ (r : Status). EndsAs answers shelf shelf' a c r) (sym e) (EndsShort-none answers a b c s q)
 EndsAs-finish answers shelf shelf' a b c before now (Err WriteFault) result s f = by (either_way WriteFault b c before now result refl f)
   where
-    by : ((result ≡ WriteFault) ⊎ (result ≡ WriteFault)) × Appends b c [] → EndsAs answers a c result
-    by (inl e, q) = subst (λ (r : Status). EndsAs answers a c r) (sym e) (EndsShort-none answers a b c s q)
-    by (inr e, q) = subst (λ (r : Status). EndsAs answers a c r) (sym e) (EndsShort-none answers a b c s q)
+    by : ((result ≡ WriteFault) ⊎ (result ≡ WriteFault)) × Appends b c [] → EndsAs answers shelf shelf' a c result
+    by (inl e, q) = subst (λ (r : Status). EndsAs answers shelf shelf' a c r) (sym e) (EndsShort-none answers a b c s q)
+    by (inr e, q) = subst (λ (r : Status). EndsAs answers shelf shelf' a c r) (sym e) (EndsShort-none answers a b c s q)
 EndsAs-finish answers shelf shelf' a b c before now (Err ReadFault) result s f = by (either_way ReadFault b c before now result refl f)
   where
-    by : ((result ≡ ReadFault) ⊎ (result ≡ WriteFault)) × Appends b c [] → EndsAs answers a c result
-    by (inl e, q) = subst (λ (r : Status). EndsAs answers a c r) (sym e) (Appends-none a b c [] s.unwritten q)
-    by (inr e, q) = subst (λ (r : Status). EndsAs answers a c r) (sym e) (inl (Appends-none a b c [] s.unwritten q))
-EndsAs-finish answers shelf shelf' a b c before now (Err Usage) result s f = EndsAs-text answers Usage a b c before now result s (λ w. w) f
-EndsAs-finish answers shelf shelf' a b c before now (Err (Refused file place rule)) result s f = EndsAs-text answers (Refused file place rule) a b c before now result s (λ w. w) f
+    by : ((result ≡ ReadFault) ⊎ (result ≡ WriteFault)) × Appends b c [] → EndsAs answers shelf shelf' a c result
+    by (inl e, q) = subst (λ (r : Status). EndsAs answers shelf shelf' a c r) (sym e) (record { reason = s.reason; unwritten = Appends-none a b c [] s.unwritten q })
+    by (inr e, q) = subst (λ (r : Status). EndsAs answers shelf shelf' a c r) (sym e) (inl (Appends-none a b c [] s.unwritten q))
+EndsAs-finish answers shelf shelf' a b c before now (Err Usage) result s f = EndsAs-text answers shelf shelf' Usage a b c before now result s (λ w. w) f
+EndsAs-finish answers shelf shelf' a b c before now (Err (Refused file place rule)) result s f = EndsAs-text answers shelf shelf' (Refused file place rule) a b c before now result s (λ w. w) f
 EndsAs-finish answers shelf shelf' a b c before now (Err (Stalled point)) result s f = by (either_way (Stalled point) b c before now result refl f)
   where
-    by : ((result ≡ Stalled point) ⊎ (result ≡ WriteFault)) × Appends b c [] → EndsAs answers a c result
-    by (inl e, q) = subst (λ (r : Status). EndsAs answers a c r) (sym e) (record { text = s.text; answer = s.answer; written = Appends-none a b c s.text s.written q })
+    by : ((result ≡ Stalled point) ⊎ (result ≡ WriteFault)) × Appends b c [] → EndsAs answers shelf shelf' a c result
+    by (inl e, q) = subst (λ (r : Status). EndsAs answers shelf shelf' a c r) (sym e) (record { text = s.text; answer = s.answer; written = Appends-none a b c s.text s.written q })
     by (inr e, q) =
-        subst (λ (r : Status). EndsAs answers a c r) (sym e)
+        subst (λ (r : Status). EndsAs answers shelf shelf' a c r) (sym e)
         (inr (record { status = Stalled point; text = s.text; answer = s.answer; written = AppendsFront-all a c s.text (Appends-none a b c s.text s.written q) }))
-EndsAs-finish answers shelf shelf' a b c before now (Err (TooLong file)) result s f = EndsAs-text answers (TooLong file) a b c before now result s (λ w. w) f
+EndsAs-finish answers shelf shelf' a b c before now (Err (TooLong file)) result s f = EndsAs-text answers shelf shelf' (TooLong file) a b c before now result s (λ w. w) f
 EndsAs-finish answers shelf shelf' a b c before now (Err Done) result s f = absurd s
 
 -- the same over a shelf that may tell its files
 pub EndsAs-told : (told : Files) (answers : (List ℕ → Option (List ℕ)) → Status → List ℕ → Type 0) (shelf shelf' : ℕ) (a b c : Option (List ℕ)) (before now : ℕ) (stopped : Result (Unit {0}) Status) (result : Status)
-    → IfSome told (λ files. StopsAs (answers files) shelf shelf' a b stopped) → FinishesAs stopped b c before now result → IfSome told (λ files. EndsAs (answers files) a c result)
+    → IfSome told (λ files. StopsAs (answers files) shelf shelf' a b stopped) → FinishesAs stopped b c before now result → IfSome told (λ files. EndsAs (answers files) shelf shelf' a c result)
 EndsAs-told None answers shelf shelf' a b c before now stopped result s f = tt
 EndsAs-told (Some files) answers shelf shelf' a b c before now stopped result s f = EndsAs-finish (answers files) shelf shelf' a b c before now stopped result s f
 
@@ -150,3 +150,23 @@ pub word-string_bytes : {W : Type 0} (bytes : W → List ℕ) (words : List W) (
 word-string_bytes bytes [] place w e h = absurd (omega arith)
 word-string_bytes bytes (x ∷ xs) zero w e h = ap bytes e
 word-string_bytes bytes (x ∷ xs) (suc place) w e h = word-string_bytes bytes xs place w e (omega arith)
+
+-- the status of a run has the cause of that at which its form stopped, or the sink failed at its text
+pub CausedBy-finish : (form : Option Form) (names : List (List ℕ)) (files : Files) (shelf shelf' before between now : ℕ) (b c : Option (List ℕ)) (stopped : Result (Unit {0}) Status) (result : Status)
+    → StopsBy form names files shelf shelf' before between stopped → FinishesAs stopped b c between now result → between ≤ now → CausedBy form names files shelf shelf' before now result
+CausedBy-finish form names files shelf shelf' before between now b c (Ok u) result s f later =
+    subst (λ (r : Status). CausedBy form names files shelf shelf' before now r) (sym f.0) s.command
+CausedBy-finish form names files shelf shelf' before between now b c (Err status) result s (inl f) later =
+    subst (λ (r : Status). CausedBy form names files shelf shelf' before now r) (sym f.0) (at status s.cause)
+  where
+    at : (t : Status) → CausedBy form names files shelf shelf' before between t → CausedBy form names files shelf shelf' before now t
+    at WriteFault h = omega (arith, h, later)
+    at ReadFault h = h
+    at Usage h = h
+    at (Stalled point) h = h
+    at (Refused file place rule) h = h
+    at (TooLong file) h = h
+    at Done h = h
+    at Memory h = tt
+CausedBy-finish form names files shelf shelf' before between now b c (Err status) result s (inr f) later =
+    subst (λ (r : Status). CausedBy form names files shelf shelf' before now r) (sym f.0) (omega (arith, f.2, s.later))

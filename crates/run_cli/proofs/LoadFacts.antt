@@ -1,5 +1,5 @@
 -- Files that are loaded, and why others are not.
-use Rattle.std.proofs.Common.{◌≡◌, ◌≤◌, ℕ, zero, suc, List, [], ◌∷◌, length, Option, Some, None, Result, Ok, Err, IfErr, IfSome, refl, sym, inl, inr, arith}
+use Rattle.std.proofs.Common.{◌≡◌, ◌⊎◌, ◌≤◌, ℕ, zero, suc, List, [], ◌∷◌, length, Option, Some, None, Result, Ok, Err, IfErr, IfSome, refl, sym, ap, inl, inr, arith}
 use Rattle.std.specs.Prelude.{Any}
 use Rattle.std.specs.Io.KnownBytes.{Appends}
 use Rattle.run_io.specs.Fetches.{Files, IsAbsent}
@@ -10,10 +10,11 @@ use Rattle.line_tables.specs.LineFile as line
 use Rattle.line_tables.specs.Table.{LineTable}
 use Rattle.stock_tables.specs.StockFile as stock
 use Rattle.stock_tables.specs.Stock.{StockTable}
+use Rattle.stock_tables.specs.declared.StockFault.{StockFault}
 use Rattle.stock_tables.specs.declared.StockFault.TheVariants as stock_fault
 use Rattle.run_cli.specs.Answers.{Answer, BothFiles, LineFile, StockFile, WithFile, WithTable}
 use Rattle.run_cli.specs.Files.{Fetched, IsLineOf, IsStockOf, LoadStops, Never, cells_in, most_bytes, most_cells}
-use Rattle.run_cli.specs.Statuses.{line_status, status_text, stock_status}
+use Rattle.run_cli.specs.Statuses.{law_rule, line_status, status_text, stock_status}
 use Rattle.run_cli.specs.Stops.{StopsAs}
 use Rattle.run_cli.specs.declared.status.Status.{Status}
 use Rattle.run_cli.specs.declared.status.Status.TheVariants.{Done, Memory, Usage, ReadFault, WriteFault, Refused, Stalled, TooLong}
@@ -47,23 +48,23 @@ pub LineFile-never : (file : Option (List ℕ)) (next : LineTable → Answer) (s
 LineFile-never file next s t h = WithFile-more 1 file line_status line.reading_of Never next s t (λ table n. absurd n) h
 
 -- why files are not loaded, among more files and over more time
-LoadStops-more : (told : Files) (names more : List (List ℕ)) (refuses answers : (List ℕ → Option (List ℕ)) → Answer) (before between now : ℕ) (status : Status) → before ≤ between
-    → (Any (IsAbsent told) names → Any (IsAbsent told) more)
+LoadStops-more : (told : Files) (names more : List (List ℕ)) (reads among : ℕ → Type 0) (refuses answers : (List ℕ → Option (List ℕ)) → Answer) (before between now : ℕ) (status : Status) → before ≤ between
+    → (Any (IsAbsent told) names → Any (IsAbsent told) more) → ((file : ℕ) → reads file → among file)
     → ((files : List ℕ → Option (List ℕ)) (s : Status) (t : List ℕ) → told ≡ Some files → refuses files s t → answers files s t)
-    → LoadStops told between now names refuses status → LoadStops told before now more answers status
-LoadStops-more told names more refuses answers before between now Memory later some f h = tt
-LoadStops-more told names more refuses answers before between now ReadFault later some f (inl rose) = inl (omega (arith, later, rose))
-LoadStops-more None names more refuses answers before between now ReadFault later some f (inr h) = inr (some h.0, tt)
-LoadStops-more (Some files) names more refuses answers before between now ReadFault later some f (inr h) = inr (some h.0, f files ReadFault [] refl h.1)
-LoadStops-more None names more refuses answers before between now (TooLong file) later some f h = tt
-LoadStops-more (Some files) names more refuses answers before between now (TooLong file) later some f h = f files (TooLong file) (status_text (TooLong file)) refl h
-LoadStops-more None names more refuses answers before between now (Refused file place rule) later some f h = tt
-LoadStops-more (Some files) names more refuses answers before between now (Refused file place rule) later some f h =
-    f files (Refused file place rule) (status_text (Refused file place rule)) refl h
-LoadStops-more told names more refuses answers before between now Done later some f h = absurd h
-LoadStops-more told names more refuses answers before between now Usage later some f h = absurd h
-LoadStops-more told names more refuses answers before between now WriteFault later some f h = absurd h
-LoadStops-more told names more refuses answers before between now (Stalled point) later some f h = absurd h
+    → LoadStops told between now names reads refuses status → LoadStops told before now more among answers status
+LoadStops-more told names more reads among refuses answers before between now Memory later some is f h = tt
+LoadStops-more told names more reads among refuses answers before between now ReadFault later some is f (inl rose) = inl (omega (arith, later, rose))
+LoadStops-more None names more reads among refuses answers before between now ReadFault later some is f (inr h) = inr (some h.0, tt)
+LoadStops-more (Some files) names more reads among refuses answers before between now ReadFault later some is f (inr h) = inr (some h.0, f files ReadFault [] refl h.1)
+LoadStops-more None names more reads among refuses answers before between now (TooLong file) later some is f h = (is file h.0, tt)
+LoadStops-more (Some files) names more reads among refuses answers before between now (TooLong file) later some is f h = (is file h.0, f files (TooLong file) (status_text (TooLong file)) refl h.1)
+LoadStops-more None names more reads among refuses answers before between now (Refused file place rule) later some is f h = (is file h.0, tt)
+LoadStops-more (Some files) names more reads among refuses answers before between now (Refused file place rule) later some is f h =
+    (is file h.0, f files (Refused file place rule) (status_text (Refused file place rule)) refl h.1)
+LoadStops-more told names more reads among refuses answers before between now Done later some is f h = absurd h
+LoadStops-more told names more reads among refuses answers before between now Usage later some is f h = absurd h
+LoadStops-more told names more reads among refuses answers before between now WriteFault later some is f h = absurd h
+LoadStops-more told names more reads among refuses answers before between now (Stalled point) later some is f h = absurd h
 
 -- a file that is not there is among two, as the first and as the second
 Any-first : (told : Files) (first second : List ℕ) → Any (IsAbsent told) (first ∷ []) → Any (IsAbsent told) (first ∷ second ∷ [])
@@ -76,21 +77,21 @@ Any-second told first second (suc i, name, less, is, absent) = absurd (omega (ar
 
 -- where a line file is not loaded, nor are it and a stock file
 pub LoadStops-line : (told : Files) (line_name stock_name : List ℕ) (before now : ℕ) (status : Status) (loaded : Result (LineTable × StockTable) Status) → loaded ≡ Err status
-    → LoadStops told before now (line_name ∷ []) (λ files. LineFile (files line_name) Never) status
-    → IfErr loaded (LoadStops told before now (line_name ∷ stock_name ∷ []) (λ files. BothFiles (files line_name) (files stock_name) (λ l. Never)))
+    → LoadStops told before now (line_name ∷ []) (λ file. file ≡ 1) (λ files. LineFile (files line_name) Never) status
+    → IfErr loaded (LoadStops told before now (line_name ∷ stock_name ∷ []) (λ file. (file ≡ 1) ⊎ (file ≡ 2)) (λ files. BothFiles (files line_name) (files stock_name) (λ l. Never)))
 LoadStops-line told line_name stock_name before now status loaded e h =
-    rw e (LoadStops-more told (line_name ∷ []) (line_name ∷ stock_name ∷ []) (λ files. LineFile (files line_name) Never)
-    (λ files. BothFiles (files line_name) (files stock_name) (λ l. Never)) before before now status (omega arith) (Any-first told line_name stock_name)
+    rw e (LoadStops-more told (line_name ∷ []) (line_name ∷ stock_name ∷ []) (λ file. file ≡ 1) (λ file. (file ≡ 1) ⊎ (file ≡ 2)) (λ files. LineFile (files line_name) Never)
+    (λ files. BothFiles (files line_name) (files stock_name) (λ l. Never)) before before now status (omega arith) (Any-first told line_name stock_name) (λ file one. inl one)
     (λ files s t is k. LineFile-never (files line_name) (λ l. StockFile (files stock_name) Never) s t k) h)
 
 -- and where the stock file behind it is not loaded
 pub LoadStops-behind : (told mid : Files) (line_name stock_name : List ℕ) (table : LineTable) (before between now : ℕ) (status : Status) (loaded : Result (LineTable × StockTable) Status) → loaded ≡ Err status
     → IfSome told (λ files. IsLineOf (files line_name) table) → mid ≡ told → before ≤ between
-    → LoadStops mid between now (stock_name ∷ []) (λ files. StockFile (files stock_name) Never) status
-    → IfErr loaded (LoadStops told before now (line_name ∷ stock_name ∷ []) (λ files. BothFiles (files line_name) (files stock_name) (λ l. Never)))
+    → LoadStops mid between now (stock_name ∷ []) (λ file. file ≡ 2) (λ files. StockFile (files stock_name) Never) status
+    → IfErr loaded (LoadStops told before now (line_name ∷ stock_name ∷ []) (λ file. (file ≡ 1) ⊎ (file ≡ 2)) (λ files. BothFiles (files line_name) (files stock_name) (λ l. Never)))
 LoadStops-behind told mid line_name stock_name table before between now status loaded e read m later h =
-    rw e (LoadStops-more told (stock_name ∷ []) (line_name ∷ stock_name ∷ []) (λ files. StockFile (files stock_name) Never)
-    (λ files. BothFiles (files line_name) (files stock_name) (λ l. Never)) before between now status later (Any-second told line_name stock_name)
+    rw e (LoadStops-more told (stock_name ∷ []) (line_name ∷ stock_name ∷ []) (λ file. file ≡ 2) (λ file. (file ≡ 1) ⊎ (file ≡ 2)) (λ files. StockFile (files stock_name) Never)
+    (λ files. BothFiles (files line_name) (files stock_name) (λ l. Never)) before between now status later (Any-second told line_name stock_name) (λ file two. inr two)
     (λ files s t is k. LineFile-read (files line_name) table (λ l. StockFile (files stock_name) Never) s t (rw is at read) k) (rw m at h))
 
 -- want of memory before anything was written
@@ -118,6 +119,27 @@ pub IsStockOf-read : (told : Files) (name bytes : List ℕ) (table : StockTable)
 IsStockOf-read None name bytes table f g = tt
 IsStockOf-read (Some files) name bytes table f (inl e) = cc e
 IsStockOf-read (Some files) name bytes table f (inr e) = record { bytes = bytes; there = f.same; short = f.short; reads = sym e }
+
+-- a stock file whose bytes were fetched is refused by the fault that was found
+refused-stock : (told : Files) (name bytes : List ℕ) (fault : StockFault) (place rule : ℕ) → Fetched told name bytes → stock.reading_of bytes ≡ Err fault → stock_status fault ≡ Refused 2 place rule
+    → IfSome told (λ files. StockFile (files name) Never (Refused 2 place rule) (status_text (Refused 2 place rule)))
+refused-stock None name bytes fault place rule f read is = tt
+refused-stock (Some files) name bytes fault place rule f read is =
+    rw f.same (inr (f.short, rw read (record { status_is = sym is; text_is = ap status_text (sym is) })))
+
+pub LoadStops-stock : (told : Files) (name bytes : List ℕ) (fault : StockFault) (before now : ℕ) (loaded : Result StockTable Status) → loaded ≡ Err (stock_status fault) → Fetched told name bytes
+    → Gives (Err stock_fault.Memory) (stock.reading_of bytes) (Err fault)
+    → IfErr loaded (LoadStops told before now (name ∷ []) (λ file. file ≡ 2) (λ files. StockFile (files name) Never))
+LoadStops-stock told name bytes fault before now loaded e f g = rw e (at fault g)
+  where
+    at : (fault : StockFault) → Gives (Err stock_fault.Memory) (stock.reading_of bytes) (Err fault) → LoadStops told before now (name ∷ []) (λ file. file ≡ 2) (λ files. StockFile (files name) Never) (stock_status fault)
+    at stock_fault.Memory g = tt
+    at stock_fault.NotToml (inl e) = cc e
+    at stock_fault.NotToml (inr e) = (refl, refused-stock told name bytes stock_fault.NotToml 0 0 f (sym e) refl)
+    at (stock_fault.Key key rule) (inl e) = cc e
+    at (stock_fault.Key key rule) (inr e) = (refl, refused-stock told name bytes (stock_fault.Key key rule) key rule f (sym e) refl)
+    at (stock_fault.Law table k) (inl e) = cc e
+    at (stock_fault.Law table k) (inr e) = (refl, refused-stock told name bytes (stock_fault.Law table k) k (law_rule table) f (sym e) refl)
 
 -- what a line file answers that was read
 pub answers-line : (told : Files) (name : List ℕ) (table : LineTable) (next : LineTable → Answer) (s : Status) (t : List ℕ)

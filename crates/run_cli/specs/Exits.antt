@@ -3,6 +3,7 @@ use Rattle.std.specs.Prelude.{ℕ}
 use Rattle.run_cli.specs.declared.status.Status.{Status}
 use Rattle.run_cli.specs.declared.status.Status.TheVariants.{Done, Memory, Usage, ReadFault, WriteFault, Refused, Stalled, TooLong}
 
+-- the exit status by which each status is told
 abbrev pub exit_of : Status → ℕ
 exit_of Done = 0
 exit_of Memory = 1

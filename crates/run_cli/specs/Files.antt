@@ -15,12 +15,12 @@ use Rattle.run_cli.specs.declared.status.Status.TheVariants.{Done, Memory, Usage
 abbrev pub most_bytes : ℕ
 most_bytes = 67108864
 
--- these are the bytes of the file of that name, and not too many
+-- not too many bytes, and where files are told those of the file of that name
 pub record Fetched (told : Files) (name bytes : List ℕ) : Type 0 where
   pub short : length bytes ≤ most_bytes
   pub same : IfSome told (λ files. files name ≡ Some bytes)
 
--- the file of that name has too many bytes
+-- where files are told, that of that name has too many bytes
 abbrev pub IsTooLong : Files → List ℕ → Type 0
 IsTooLong told name = IfSome told (λ files. (bytes : List ℕ) × (files name ≡ Some bytes) × (most_bytes < length bytes))
 
@@ -54,6 +54,7 @@ abbrev pub cells_read : Result LineTable LineFault → ℕ
 cells_read (Ok table) = table.length
 cells_read (Err fault) = 0
 
+-- how many cells the line of a file has that may not be there
 abbrev pub cells_in : Option (List ℕ) → ℕ
 cells_in None = 0
 cells_in (Some bytes) = cells_read (line.reading_of bytes)
@@ -68,15 +69,16 @@ abbrev pub Never : {X : Type 0} → X → Status → List ℕ → Type 0
 Never x s t = ⊥
 
 -- why files are not loaded: for a fault of reading a count that rose, or one of the files that is not there, where
--- that answers; and a refusal is one of those that the files have
-abbrev pub LoadStops : Files → ℕ → ℕ → List (List ℕ) → ((List ℕ → Option (List ℕ)) → Status → List ℕ → Type 0) → Status → Type 0
-LoadStops told before now names refuses Memory = ⊤
-LoadStops told before now names refuses ReadFault =
+-- that answers; and a file that is refused or too long is one of those that are read, and answers so
+abbrev pub LoadStops : Files → ℕ → ℕ → List (List ℕ) → (ℕ → Type 0) → ((List ℕ → Option (List ℕ)) → Status → List ℕ → Type 0) → Status → Type 0
+LoadStops told before now names reads refuses Memory = ⊤
+LoadStops told before now names reads refuses ReadFault =
     Rose before now ⊎ (Any (IsAbsent told) names × IfSome told (λ files. refuses files ReadFault []))
-LoadStops told before now names refuses (TooLong file) = IfSome told (λ files. refuses files (TooLong file) (status_text (TooLong file)))
-LoadStops told before now names refuses (Refused file place rule) =
-    IfSome told (λ files. refuses files (Refused file place rule) (status_text (Refused file place rule)))
-LoadStops told before now names refuses Done = ⊥
-LoadStops told before now names refuses Usage = ⊥
-LoadStops told before now names refuses WriteFault = ⊥
-LoadStops told before now names refuses (Stalled point) = ⊥
+LoadStops told before now names reads refuses (TooLong file) =
+    reads file × IfSome told (λ files. refuses files (TooLong file) (status_text (TooLong file)))
+LoadStops told before now names reads refuses (Refused file place rule) =
+    reads file × IfSome told (λ files. refuses files (Refused file place rule) (status_text (Refused file place rule)))
+LoadStops told before now names reads refuses Done = ⊥
+LoadStops told before now names reads refuses Usage = ⊥
+LoadStops told before now names reads refuses WriteFault = ⊥
+LoadStops told before now names reads refuses (Stalled point) = ⊥

@@ -7,7 +7,8 @@ use Rattle.run_cli.specs.Statuses.{status_text}
 use Rattle.run_cli.specs.declared.status.Status.{Status}
 use Rattle.run_cli.specs.declared.status.Status.TheVariants.{Done, WriteFault}
 
--- the text of the status was written whole, or the sink failed at a front of it
+-- a form that wrote its text has nothing more to write; else the text of the status was written whole, or the sink
+-- failed at a front of it
 abbrev pub FinishesAs : Result (Unit {0}) Status → Option (List ℕ) → Option (List ℕ) → ℕ → ℕ → Status → Type 0
 FinishesAs (Ok u) old new before now result = (result ≡ Done) × Appends old new []
 FinishesAs (Err status) old new before now result =

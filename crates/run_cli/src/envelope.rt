@@ -24,7 +24,8 @@ use std::sync::ledger::Ledger;
 use stock_tables::Stock;
 use unit_rules::{Memory, Reach, Steps};
 
-// How far a train gets, and its greatest squared speeds by point up to there.
+// How far a train gets, and its greatest squared speeds by point, in (0.01 km/h)²; those from a
+// stalled point on mean nothing.
 #[derive(Drop)]
 struct Envelope {
     reach: Reach,

@@ -1,6 +1,6 @@
 //! The files that a form reads.
 
-ghost use Rattle.std.specs.Prelude.{◌≡◌, ◌≤◌, ◌∷◌, [], IfOk, IfErr, IfSome};
+ghost use Rattle.std.specs.Prelude.{◌≡◌, ◌≤◌, ◌⊎◌, ◌∷◌, [], IfOk, IfErr, IfSome};
 ghost use Rattle.run_cli.specs.Answers.{BothFiles, LineFile, StockFile};
 ghost use Rattle.run_cli.specs.Files.{FetchStops, Fetched, IsLineOf, IsStockOf, LoadStops, Never, most_cells};
 
@@ -10,8 +10,8 @@ use run_io::{Fetch, Shelf};
 use std::alloc::Global;
 use stock_tables::{Stock, read_stock};
 
-/// How many bytes a file may have.
-pub const MOST_BYTES: u64 = 67_108_864;
+// How many bytes a file may have.
+const MOST_BYTES: u64 = 67_108_864;
 
 // The line and the stock of the files of these names, the line file first.
 pub(crate) fn load_both<S: Shelf>(
@@ -23,7 +23,7 @@ pub(crate) fn load_both<S: Shelf>(
     ensures line { IfOk result (λ both. IfSome (S.files shelf.old) (λ files. IsLineOf (files line.now) both.0)) }
     ensures stock { IfOk result (λ both. IfSome (S.files shelf.old) (λ files. IsStockOf (files stock.now) both.1)) }
     ensures cells { IfOk result (λ both. both.0.length ≤ most_cells (S.files shelf.old) line.now) }
-    ensures stop { IfErr result (LoadStops (S.files shelf.old) (S.faults shelf.old) (S.faults shelf.new) (line.now ∷ stock.now ∷ []) (λ files. BothFiles (files line.now) (files stock.now) (λ l. Never))) }
+    ensures stop { IfErr result (LoadStops (S.files shelf.old) (S.faults shelf.old) (S.faults shelf.new) (line.now ∷ stock.now ∷ []) (λ file. (file ≡ 1) ⊎ (file ≡ 2)) (λ files. BothFiles (files line.now) (files stock.now) (λ l. Never))) }
     ensures files { S.files shelf.new ≡ S.files shelf.old }
     ensures later { S.faults shelf.old ≤ S.faults shelf.new }
 {
@@ -35,7 +35,7 @@ pub(crate) fn load_both<S: Shelf>(
 // The line of the line file of that name.
 pub(crate) fn load_line<S: Shelf>(alloc: Global, shelf: &mut S, name: &str) -> Result<Line, Status>
     ensures line { IfOk result (λ line. IfSome (S.files shelf.old) (λ files. IsLineOf (files name.now) line)) }
-    ensures stop { IfErr result (LoadStops (S.files shelf.old) (S.faults shelf.old) (S.faults shelf.new) (name.now ∷ []) (λ files. LineFile (files name.now) Never)) }
+    ensures stop { IfErr result (LoadStops (S.files shelf.old) (S.faults shelf.old) (S.faults shelf.new) (name.now ∷ []) (λ file. file ≡ 1) (λ files. LineFile (files name.now) Never)) }
     ensures files { S.files shelf.new ≡ S.files shelf.old }
     ensures later { S.faults shelf.old ≤ S.faults shelf.new }
 {
@@ -50,7 +50,7 @@ pub(crate) fn load_stock<S: Shelf>(
     name: &str,
 ) -> Result<Stock, Status>
     ensures stock { IfOk result (λ stock. IfSome (S.files shelf.old) (λ files. IsStockOf (files name.now) stock)) }
-    ensures stop { IfErr result (LoadStops (S.files shelf.old) (S.faults shelf.old) (S.faults shelf.new) (name.now ∷ []) (λ files. StockFile (files name.now) Never)) }
+    ensures stop { IfErr result (LoadStops (S.files shelf.old) (S.faults shelf.old) (S.faults shelf.new) (name.now ∷ []) (λ file. file ≡ 2) (λ files. StockFile (files name.now) Never)) }
     ensures files { S.files shelf.new ≡ S.files shelf.old }
     ensures later { S.faults shelf.old ≤ S.faults shelf.new }
 {

@@ -26,15 +26,15 @@ use crate::caps::run_caps;
 use crate::envelope::run_envelope;
 use crate::rises::run_rise;
 use crate::words::{Form, read_form};
-pub use files::MOST_BYTES;
 use run_io::{Failed, Page, Shelf, Sink, Source};
 pub use status::Status;
 use std::alloc::Global;
 use std::sync::ledger::Ledger;
 use unit_rules::Steps;
 
-/// Runs the words of a command line, which don't hold the program's own name. All text goes to
-/// `out`.
+/// Runs the words of a command line, which don't hold the program's own name, and says how it ended.
+/// All text goes to `out`; every status but want of memory and the two faults says that it was
+/// written whole. Each evaluation of the step rule is counted in `steps`.
 pub fn run<S: Shelf, I: Source, K: Sink, L: Ledger>(
     alloc: Global,
     words: &[String],
@@ -43,13 +43,15 @@ pub fn run<S: Shelf, I: Source, K: Sink, L: Ledger>(
     out: &mut K,
     steps: &mut Steps<L>,
 ) -> Status
-    ensures ends { IfSome (S.files shelf.old) (λ files. EndsAs (Answers (map string_bytes words.now) files) (K.written out.old) (K.written out.new) result) }
+    ensures ends { IfSome (S.files shelf.old) (λ files. EndsAs (Answers (map string_bytes words.now) files) (S.faults shelf.old) (S.faults shelf.new) (K.written out.old) (K.written out.new) result) }
     ensures causes { HasCauses (map string_bytes words.now) (S.files shelf.old) (S.faults shelf.old) (S.faults shelf.new) (K.faults out.old) (K.faults out.new) result }
     ensures complete { IsQuiet (S.faults shelf.old) (S.faults shelf.new) → IsQuiet (K.faults out.old) (K.faults out.new)
         → IfSome (S.files shelf.old) (λ files. (result ≡ Status.Memory) ⊎ EndsWhole (Answers (map string_bytes words.now) files) result (K.written out.old) (K.written out.new)) }
     ensures steps { steps.new ≤ steps.old + most_steps (form_of (map string_bytes words.now)) (most_cells (S.files shelf.old) (word (map string_bytes words.now) 1)) }
+    // so far no form reads the input
+    ensures unread { I.left input.new ≡ I.left input.old }
 {
-    let stopped = run_words(words, alloc, shelf, out, steps);
+    let stopped = run_words(alloc, words, shelf, out, steps);
     finish(out, stopped)
 }
 
@@ -61,8 +63,8 @@ pub fn laws_of_answers()
 
 // Runs the words, and stops with the status of what is in their way.
 fn run_words<S: Shelf, K: Sink, L: Ledger>(
-    words: &[String],
     alloc: Global,
+    words: &[String],
     shelf: &mut S,
     out: &mut K,
     steps: &mut Steps<L>,
@@ -73,15 +75,15 @@ fn run_words<S: Shelf, K: Sink, L: Ledger>(
 {
     match read_form(words) {
         None => Err(Status::Usage),
-        Some(form) => run_form(form, words, alloc, shelf, out, steps),
+        Some(form) => run_form(alloc, form, words, shelf, out, steps),
     }
 }
 
 // Runs a form over the files that the words name.
 fn run_form<S: Shelf, K: Sink, L: Ledger>(
+    alloc: Global,
     form: Form,
     words: &[String],
-    alloc: Global,
     shelf: &mut S,
     out: &mut K,
     steps: &mut Steps<L>,

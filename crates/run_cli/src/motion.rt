@@ -23,7 +23,8 @@ pub(crate) fn rule_on(alloc: Global, line: &Line, stock: Stock) -> Result<Rule, 
     ensures cells { IfOk result (λ rule. cells_of rule ≡ line.now.length) }
     ensures top { IfOk result (λ rule. kmh_of rule ≡ stock.top) }
 {
-    let _length = line.length();
+    // A line has as many cells as a rule may have pulls.
+    let _cells = line.length();
     let pulls = pulls(alloc, line, stock.mass(), stock.length())?;
     Ok(rule_of(stock, pulls))
 }

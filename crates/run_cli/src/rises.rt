@@ -62,7 +62,7 @@ fn copied(alloc: Global, pulls: &[i64]) -> Result<Vec<i64>, Memory>
     }
 }
 
-// Writes a line for each cell.
+// Writes a line for each cell, from the squared speed `before` it.
 fn write_rise<K: Sink, L: Ledger>(
     out: &mut K,
     rule: &Rule,
@@ -84,7 +84,7 @@ fn write_rise<K: Sink, L: Ledger>(
     page.flush(out)
 }
 
-// Puts the line of a cell.
+// Puts the line of a cell, from the squared speed `before` it.
 fn put_rise<K: Sink, L: Ledger>(
     page: &mut Page,
     out: &mut K,

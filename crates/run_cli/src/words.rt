@@ -1,7 +1,7 @@
 //! The words of a command line, and the forms that they may have.
 
 ghost use Rattle.std.specs.Prelude.{◌≡◌, ◌≤◌, ◌<◌, IfSome, IsTrue, map, length, string_bytes};
-ghost use Rattle.run_cli.specs.Words.{IsForm, asks, caps_of, form_of, is_name, names_two, rise_at};
+ghost use Rattle.run_cli.specs.Words.{IsForm, asks, caps_form, form_of, is_name, names_two, rise_form};
 ghost use Rattle.unit_rules.specs.Numeral.{number_in};
 
 use unit_rules::number_in;
@@ -43,7 +43,7 @@ pub(crate) fn read_form(words: &[String]) -> Option<Form>
 
 // The form `caps` by the words for the train's length and top speed.
 fn read_caps(train: &[u8], top: &[u8]) -> Option<Form>
-    ensures form { result ≡ caps_of (number_in 1 5000 train.now) (number_in 1 500 top.now) }
+    ensures form { result ≡ caps_form (number_in 1 5000 train.now) (number_in 1 500 top.now) }
     ensures in_range { IfSome result (IsForm 4) }
 {
     let train = number_in(1, 5000, train)?;
@@ -53,7 +53,7 @@ fn read_caps(train: &[u8], top: &[u8]) -> Option<Form>
 
 // The form `rise` by the word for the speed.
 fn read_rise(kmh: &[u8]) -> Option<Form>
-    ensures form { result ≡ rise_at (number_in 0 500 kmh.now) }
+    ensures form { result ≡ rise_form (number_in 0 500 kmh.now) }
     ensures in_range { IfSome result (IsForm 4) }
 {
     Some(Form::Rise {

@@ -1,7 +1,7 @@
 use Rattle.std.proofs.Common.{map, string_bytes}
 use Rattle.run_cli.specs.Answers.{Answers}
 use Rattle.run_cli.specs.Words.{files_by, form_of}
-use Rattle.run_cli.proofs.EndFacts.{EndsAs-told, EndsWhole-told}
+use Rattle.run_cli.proofs.EndFacts.{CausedBy-finish, EndsAs-told, EndsWhole-told}
 use Rattle.run_cli.proofs.run.Goals as goal
 
 pub returns-clause-ends : goal.returns-clause-ends
@@ -18,3 +18,10 @@ returns-clause-complete g c =
     (g.K.Sink.written c.run_words-stopped.new.out) (g.K.Sink.written c.finish.new.out) (g.K.Sink.faults c.args.out.now) (g.K.Sink.faults c.run_words-stopped.new.out)
     (g.K.Sink.faults c.finish.new.out) c.run_words-stopped.result c.finish.result c.run_words-stopped.ensures.ends c.run_words-stopped.ensures.causes c.finish.ensures.ends
     c.finish.ensures.later quiet_shelf quiet
+
+pub returns-clause-causes : goal.returns-clause-causes
+returns-clause-causes g c =
+    CausedBy-finish (form_of (map string_bytes c.args.words.now)) (files_by (form_of (map string_bytes c.args.words.now)) (map string_bytes c.args.words.now)) (g.S.Shelf.files c.args.shelf.now)
+    (g.S.Shelf.faults c.args.shelf.now) (g.S.Shelf.faults c.run_words-stopped.new.shelf) (g.K.Sink.faults c.args.out.now) (g.K.Sink.faults c.run_words-stopped.new.out)
+    (g.K.Sink.faults c.finish.new.out) (g.K.Sink.written c.run_words-stopped.new.out) (g.K.Sink.written c.finish.new.out) c.run_words-stopped.result c.finish.result
+    c.run_words-stopped.ensures.causes c.finish.ensures.ends c.finish.ensures.later
