@@ -39,7 +39,7 @@ status_of (reach.Stalled k) = Stalled k
 -- what the walks give answers, as a run or as a stall
 pub IsEnvelope-reaches : (line : LineTable) (stock : StockTable) (speeds : List ℕ) (r : Reach) → ReachesAs (train_rule line stock) (train_caps line stock) speeds r
     → IsEnvelope line stock (status_of r) (envelope_text speeds r)
-IsEnvelope-reaches line stock speeds reach.Whole h = inl (record { status_is = refl; run = speeds; is_greatest = h; text_is = refl })
+IsEnvelope-reaches line stock speeds reach.Whole h = inl (record { status_is = refl; list = speeds; is_list = h; text_is = refl })
 IsEnvelope-reaches line stock speeds (reach.Stalled k) h = inr (record { point = k; is_stalled = h.0; status_is = refl; text_is = refl })
 
 -- where its text was written whole, the form ends by it

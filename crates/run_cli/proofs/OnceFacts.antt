@@ -9,7 +9,7 @@ use Rattle.run_rules.specs.Runs.{AtMost, IsBrakingList, IsGreatestRun, StepRule}
 use Rattle.stock_tables.specs.StockFile as stock
 use Rattle.stock_tables.specs.Stock.{StockTable}
 use Rattle.unit_rules.specs.declared.Reach.TheVariants as reach
-use Rattle.run_cli.specs.Answers.{Answer, AnswersBy, AnswersOnce, Is, IsBrakes, IsEnvelope, IsOneAnswer, LineFile, StockFile, WithFile, WithTable}
+use Rattle.run_cli.specs.Answers.{Answer, AnswersBy, AnswersOnce, Is, IsEnvelope, IsListed, IsOneAnswer, LineFile, StockFile, WithFile, WithTable}
 use Rattle.run_cli.specs.Statuses.{line_status, stock_status}
 use Rattle.run_cli.specs.Texts.{train_caps, train_rule}
 use Rattle.run_cli.specs.Words.{form_of}
@@ -55,17 +55,16 @@ braking_list-once rule x c d h k = AtMost-both c d (length x) h.keeps.same_point
 greatest_run-once : (rule : StepRule) (x e f : List ℕ) → IsGreatestRun rule x e → IsGreatestRun rule x f → e ≡ f
 greatest_run-once rule x e f h k = AtMost-both e f (length x) h.run.same_points k.run.same_points (k.greatest e h.run) (h.greatest f k.run)
 
-IsBrakes-once : (line : LineTable) (stock : StockTable) → AnswersOnceBy (IsBrakes line stock)
-IsBrakes-once line stock s r t u a b =
-    let list = braking_list-once (train_rule line stock) (train_caps line stock) a.list b.list a.is_list b.is_list in
+IsListed-once : (is : StepRule → List ℕ → List ℕ → Type 0) → ((rule : StepRule) (x c d : List ℕ) → is rule x c → is rule x d → c ≡ d) → (line : LineTable) (stock : StockTable)
+    → AnswersOnceBy (IsListed is line stock)
+IsListed-once is once line stock s r t u a b =
+    let list = once (train_rule line stock) (train_caps line stock) a.list b.list a.is_list b.is_list in
     record { one_status = a.status_is ∙ sym b.status_is; one_text = a.text_is ∙ ap list_text list ∙ sym b.text_is }
 
 IsEnvelope-once : (line : LineTable) (stock : StockTable) → AnswersOnceBy (IsEnvelope line stock)
-IsEnvelope-once line stock s r t u (inl a) (inl b) =
-    let run = greatest_run-once (train_rule line stock) (train_caps line stock) a.run b.run a.is_greatest b.is_greatest in
-    record { one_status = a.status_is ∙ sym b.status_is; one_text = a.text_is ∙ ap list_text run ∙ sym b.text_is }
-IsEnvelope-once line stock s r t u (inl a) (inr b) = absurd (runs_or_stalls (train_rule line stock) (train_caps line stock) a.run b.point a.is_greatest.run b.is_stalled)
-IsEnvelope-once line stock s r t u (inr a) (inl b) = absurd (runs_or_stalls (train_rule line stock) (train_caps line stock) b.run a.point b.is_greatest.run a.is_stalled)
+IsEnvelope-once line stock s r t u (inl a) (inl b) = IsListed-once IsGreatestRun greatest_run-once line stock s r t u a b
+IsEnvelope-once line stock s r t u (inl a) (inr b) = absurd (runs_or_stalls (train_rule line stock) (train_caps line stock) a.list b.point a.is_list.run b.is_stalled)
+IsEnvelope-once line stock s r t u (inr a) (inl b) = absurd (runs_or_stalls (train_rule line stock) (train_caps line stock) b.list a.point b.is_list.run a.is_stalled)
 IsEnvelope-once line stock s r t u (inr a) (inr b) =
     let point = stalls_once (train_rule line stock) (train_caps line stock) a.point b.point a.is_stalled b.is_stalled in
     record {
@@ -78,7 +77,7 @@ form-once None words files s r t u a b = record { one_status = a.status_is ∙ s
 form-once (Some (Caps train top)) words files s r t u a b = LineFile-once _ _ (λ line. Is-once _ _) s r t u a b
 form-once (Some Bands) words files s r t u a b = StockFile-once _ _ (λ stock. Is-once _ _) s r t u a b
 form-once (Some (Rise kmh)) words files s r t u a b = LineFile-once _ _ (λ line. StockFile-once _ _ (λ stock. Is-once _ _)) s r t u a b
-form-once (Some Brakes) words files s r t u a b = LineFile-once _ _ (λ line. StockFile-once _ _ (λ stock. IsBrakes-once line stock)) s r t u a b
+form-once (Some Brakes) words files s r t u a b = LineFile-once _ _ (λ line. StockFile-once _ _ (λ stock. IsListed-once IsBrakingList braking_list-once line stock)) s r t u a b
 form-once (Some Envelope) words files s r t u a b = LineFile-once _ _ (λ line. StockFile-once _ _ (λ stock. IsEnvelope-once line stock)) s r t u a b
 
 pub answers_once : AnswersOnce

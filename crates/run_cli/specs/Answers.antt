@@ -5,7 +5,7 @@ use Rattle.line_tables.specs.Table.{LineTable}
 use Rattle.stock_tables.specs.StockFile as stock
 use Rattle.stock_tables.specs.Stock.{StockTable}
 use Rattle.report_text.specs.Texts.{bands_text, list_text, reach_text}
-use Rattle.run_rules.specs.Runs.{IsBrakingList, IsGreatestRun, IsStalled}
+use Rattle.run_rules.specs.Runs.{IsBrakingList, IsGreatestRun, IsStalled, StepRule}
 use Rattle.unit_rules.specs.declared.Reach.TheVariants as reach
 use Rattle.run_cli.specs.Files.{most_bytes}
 use Rattle.run_cli.specs.Statuses.{line_status, status_text, stock_status}
@@ -52,19 +52,16 @@ StockFile file next s t = WithFile 2 file (λ bytes. WithTable stock_status (sto
 abbrev pub BothFiles : Option (List ℕ) → Option (List ℕ) → (LineTable → StockTable → Answer) → Status → List ℕ → Type 0
 BothFiles line_file stock_file next s t = LineFile line_file (λ line. StockFile stock_file (next line)) s t
 
--- the braking list of the train on the line, where it stands at both ends
-pub record IsBrakes (line : LineTable) (stock : StockTable) (s : Status) (t : List ℕ) : Type 0 where
+-- a list by point that is such a one for the train on the line, where it stands at both ends
+pub record IsListed (is : StepRule → List ℕ → List ℕ → Type 0) (line : LineTable) (stock : StockTable) (s : Status) (t : List ℕ) : Type 0 where
   pub status_is : s ≡ Done
   pub list : List ℕ
-  pub is_list : IsBrakingList (train_rule line stock) (train_caps line stock) list
+  pub is_list : is (train_rule line stock) (train_caps line stock) list
   pub text_is : t ≡ list_text list
 
--- the greatest run of the train over the line, where it stands at both ends
-pub record IsFastestRun (line : LineTable) (stock : StockTable) (s : Status) (t : List ℕ) : Type 0 where
-  pub status_is : s ≡ Done
-  pub run : List ℕ
-  pub is_greatest : IsGreatestRun (train_rule line stock) (train_caps line stock) run
-  pub text_is : t ≡ list_text run
+-- the braking list of the train on the line
+abbrev pub IsBrakes : LineTable → StockTable → Answer
+IsBrakes line stock s t = IsListed IsBrakingList line stock s t
 
 -- the point at which the train is stalled, where it stands at both ends of the line
 pub record IsStall (line : LineTable) (stock : StockTable) (s : Status) (t : List ℕ) : Type 0 where
@@ -75,7 +72,7 @@ pub record IsStall (line : LineTable) (stock : StockTable) (s : Status) (t : Lis
 
 -- the envelope of the train on the line: its greatest run or its stall
 abbrev pub IsEnvelope : LineTable → StockTable → Answer
-IsEnvelope line stock s t = IsFastestRun line stock s t ⊎ IsStall line stock s t
+IsEnvelope line stock s t = IsListed IsGreatestRun line stock s t ⊎ IsStall line stock s t
 
 -- what answers a form, over the files that the words name
 abbrev pub AnswersBy : Option Form → List (List ℕ) → (List ℕ → Option (List ℕ)) → Status → List ℕ → Type 0

@@ -25,15 +25,15 @@ pub(crate) fn run_brakes<S: Shelf, K: Sink, L: Ledger>(
     alloc: Global,
     shelf: &mut S,
     out: &mut K,
-    line: &str,
-    stock: &str,
+    line_name: &str,
+    stock_name: &str,
     steps: &mut Steps<L>,
 ) -> Result<(), Status>
-    ensures ends { IfSome (S.files shelf.old) (λ files. StopsAs (BothFiles (files line.now) (files stock.now) IsBrakes) (S.faults shelf.old) (S.faults shelf.new) (K.written out.old) (K.written out.new) result) }
-    ensures causes { StopsBy (Some Form.Brakes) (line.now ∷ stock.now ∷ []) (S.files shelf.old) (S.faults shelf.old) (S.faults shelf.new) (K.faults out.old) (K.faults out.new) result }
-    ensures steps { steps.new ≤ steps.old + most_steps (Some Form.Brakes) (most_cells (S.files shelf.old) line.now) }
+    ensures ends { IfSome (S.files shelf.old) (λ files. StopsAs (BothFiles (files line_name.now) (files stock_name.now) IsBrakes) (S.faults shelf.old) (S.faults shelf.new) (K.written out.old) (K.written out.new) result) }
+    ensures causes { StopsBy (Some Form.Brakes) (line_name.now ∷ stock_name.now ∷ []) (S.files shelf.old) (S.faults shelf.old) (S.faults shelf.new) (K.faults out.old) (K.faults out.new) result }
+    ensures steps { steps.new ≤ steps.old + most_steps (Some Form.Brakes) (most_cells (S.files shelf.old) line_name.now) }
 {
-    let (line, stock) = load_both(alloc, shelf, line, stock)?;
+    let (line, stock) = load_both(alloc, shelf, line_name, stock_name)?;
     let list = standing_brakes(alloc, &line, stock, steps)?;
     write_list(out, list.as_slice())?;
     Ok(())

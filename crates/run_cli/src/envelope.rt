@@ -37,15 +37,15 @@ pub(crate) fn run_envelope<S: Shelf, K: Sink, L: Ledger>(
     alloc: Global,
     shelf: &mut S,
     out: &mut K,
-    line: &str,
-    stock: &str,
+    line_name: &str,
+    stock_name: &str,
     steps: &mut Steps<L>,
 ) -> Result<(), Status>
-    ensures ends { IfSome (S.files shelf.old) (λ files. StopsAs (BothFiles (files line.now) (files stock.now) IsEnvelope) (S.faults shelf.old) (S.faults shelf.new) (K.written out.old) (K.written out.new) result) }
-    ensures causes { StopsBy (Some Form.Envelope) (line.now ∷ stock.now ∷ []) (S.files shelf.old) (S.faults shelf.old) (S.faults shelf.new) (K.faults out.old) (K.faults out.new) result }
-    ensures steps { steps.new ≤ steps.old + most_steps (Some Form.Envelope) (most_cells (S.files shelf.old) line.now) }
+    ensures ends { IfSome (S.files shelf.old) (λ files. StopsAs (BothFiles (files line_name.now) (files stock_name.now) IsEnvelope) (S.faults shelf.old) (S.faults shelf.new) (K.written out.old) (K.written out.new) result) }
+    ensures causes { StopsBy (Some Form.Envelope) (line_name.now ∷ stock_name.now ∷ []) (S.files shelf.old) (S.faults shelf.old) (S.faults shelf.new) (K.faults out.old) (K.faults out.new) result }
+    ensures steps { steps.new ≤ steps.old + most_steps (Some Form.Envelope) (most_cells (S.files shelf.old) line_name.now) }
 {
-    let (line, stock) = load_both(alloc, shelf, line, stock)?;
+    let (line, stock) = load_both(alloc, shelf, line_name, stock_name)?;
     let envelope = standing_envelope(alloc, &line, stock, steps)?;
     write_envelope(out, &envelope)?;
     stopped_by(envelope.reach)

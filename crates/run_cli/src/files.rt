@@ -17,18 +17,18 @@ const MOST_BYTES: u64 = 67_108_864;
 pub(crate) fn load_both<S: Shelf>(
     alloc: Global,
     shelf: &mut S,
-    line: &str,
-    stock: &str,
+    line_name: &str,
+    stock_name: &str,
 ) -> Result<(Line, Stock), Status>
-    ensures line { IfOk result (λ both. IfSome (S.files shelf.old) (λ files. IsLineOf (files line.now) both.0)) }
-    ensures stock { IfOk result (λ both. IfSome (S.files shelf.old) (λ files. IsStockOf (files stock.now) both.1)) }
-    ensures cells { IfOk result (λ both. both.0.length ≤ most_cells (S.files shelf.old) line.now) }
-    ensures stop { IfErr result (LoadStops (S.files shelf.old) (S.faults shelf.old) (S.faults shelf.new) (line.now ∷ stock.now ∷ []) (λ file. (file ≡ 1) ⊎ (file ≡ 2)) (λ files. BothFiles (files line.now) (files stock.now) (λ l. Never))) }
+    ensures line { IfOk result (λ both. IfSome (S.files shelf.old) (λ files. IsLineOf (files line_name.now) both.0)) }
+    ensures stock { IfOk result (λ both. IfSome (S.files shelf.old) (λ files. IsStockOf (files stock_name.now) both.1)) }
+    ensures cells { IfOk result (λ both. both.0.length ≤ most_cells (S.files shelf.old) line_name.now) }
+    ensures stop { IfErr result (LoadStops (S.files shelf.old) (S.faults shelf.old) (S.faults shelf.new) (line_name.now ∷ stock_name.now ∷ []) (λ file. (file ≡ 1) ⊎ (file ≡ 2)) (λ files. BothFiles (files line_name.now) (files stock_name.now) (λ l. Never))) }
     ensures files { S.files shelf.new ≡ S.files shelf.old }
     ensures later { S.faults shelf.old ≤ S.faults shelf.new }
 {
-    let line = load_line(alloc, shelf, line)?;
-    let stock = load_stock(alloc, shelf, stock)?;
+    let line = load_line(alloc, shelf, line_name)?;
+    let stock = load_stock(alloc, shelf, stock_name)?;
     Ok((line, stock))
 }
 

@@ -33,17 +33,17 @@ pub(crate) fn run_rise<S: Shelf, K: Sink, L: Ledger>(
     alloc: Global,
     shelf: &mut S,
     out: &mut K,
-    line: &str,
-    stock: &str,
+    line_name: &str,
+    stock_name: &str,
     kmh: u32,
     steps: &mut Steps<L>,
 ) -> Result<(), Status>
     requires { kmh ≤ 500 }
-    ensures ends { IfSome (S.files shelf.old) (λ files. StopsAs (BothFiles (files line.now) (files stock.now) (λ l s. Is Status.Done (rise_text l s kmh))) (S.faults shelf.old) (S.faults shelf.new) (K.written out.old) (K.written out.new) result) }
-    ensures causes { StopsBy (Some (Form.Rise kmh)) (line.now ∷ stock.now ∷ []) (S.files shelf.old) (S.faults shelf.old) (S.faults shelf.new) (K.faults out.old) (K.faults out.new) result }
-    ensures steps { steps.new ≤ steps.old + most_steps (Some (Form.Rise kmh)) (most_cells (S.files shelf.old) line.now) }
+    ensures ends { IfSome (S.files shelf.old) (λ files. StopsAs (BothFiles (files line_name.now) (files stock_name.now) (λ l s. Is Status.Done (rise_text l s kmh))) (S.faults shelf.old) (S.faults shelf.new) (K.written out.old) (K.written out.new) result) }
+    ensures causes { StopsBy (Some (Form.Rise kmh)) (line_name.now ∷ stock_name.now ∷ []) (S.files shelf.old) (S.faults shelf.old) (S.faults shelf.new) (K.faults out.old) (K.faults out.new) result }
+    ensures steps { steps.new ≤ steps.old + most_steps (Some (Form.Rise kmh)) (most_cells (S.files shelf.old) line_name.now) }
 {
-    let (line, stock) = load_both(alloc, shelf, line, stock)?;
+    let (line, stock) = load_both(alloc, shelf, line_name, stock_name)?;
     let before = squared(stock.top()).min(squared(kmh));
     let pulls = pulls(alloc, &line, stock.mass(), stock.length())?;
     let shown = copied(alloc, pulls.as_slice())?;

@@ -42,17 +42,26 @@ fn run_counted<L: Ledger>(
     run(alloc, words, shelf, &mut input, out, &mut steps)
 }
 
-// A case: the words, the calls of the shelf that fail, the room of the sink, the bytes that it takes
-// at a call, its calls that fail, the status, and the text.
-type Case = (
-    &'static str,
-    &'static [u64],
-    usize,
-    usize,
-    &'static [u64],
-    Status,
-    &'static [u8],
-);
+// The outside of a case: the calls of the shelf that fail, the room of the sink, the bytes that it
+// takes at a call, and its calls that fail.
+type Outside = (&'static [u64], usize, usize, &'static [u64]);
+
+const FINE: Outside = (&[], 1000, 1000, &[]);
+
+const FIRST_FETCH_FAILS: Outside = (&[1], 1000, 1000, &[]);
+
+const SECOND_FETCH_FAILS: Outside = (&[2], 1000, 1000, &[]);
+
+const SMALL: Outside = (&[], 4, 1000, &[]);
+
+const SLOW: Outside = (&[], 1000, 3, &[]);
+
+const FIRST_WRITE_FAILS: Outside = (&[], 1000, 1000, &[1]);
+
+const THIRD_WRITE_FAILS: Outside = (&[], 1000, 4, &[3]);
+
+// A case: the words, the outside, the status, and the text.
+type Case = (&'static str, Outside, Status, &'static [u8]);
 
 const LIMITED: &str = "caps lim.csv 1 60";
 
@@ -60,45 +69,39 @@ const FREE: &str = "envelope ten.csv toy.toml";
 
 const STEEP: &str = "envelope hill.csv toy.toml";
 
-const CASES: [Case; 14] = [
-    (LIMITED, &[], 1000, 1000, &[], Status::Done, CAPS),
-    (LIMITED, &[], 1000, 3, &[], Status::Done, CAPS),
-    (
-        "caps none.csv 1 60",
-        &[],
-        1000,
-        1000,
-        &[],
-        Status::ReadFault,
-        b"",
-    ),
-    ("caps", &[1], 1000, 1000, &[], Status::Usage, b"usage\n"),
-    ("", &[], 3, 2, &[], Status::WriteFault, b"usa"),
-    (FREE, &[], 1000, 1000, &[], Status::Done, RUN),
-    (FREE, &[], 1000, 3, &[], Status::Done, RUN),
-    (FREE, &[], 1000, 4, &[3], Status::WriteFault, b"0 0\n1 20"),
-    (FREE, &[], 4, 1000, &[], Status::WriteFault, b"0 0\n"),
-    (FREE, &[1], 1000, 1000, &[], Status::ReadFault, b""),
-    (FREE, &[2], 1000, 1000, &[], Status::ReadFault, b""),
-    (
-        "envelope ten.csv none.toml",
-        &[],
-        1000,
-        1000,
-        &[],
-        Status::ReadFault,
-        b"",
-    ),
+const SHORT: &str = "envelope short.csv none.toml";
+
+const TOO_SHORT: Status = Status::Refused {
+    file: 1,
+    place: 1,
+    rule: 4,
+};
+
+const CASES: [Case; 18] = [
+    (LIMITED, FINE, Status::Done, CAPS),
+    (LIMITED, SLOW, Status::Done, CAPS),
+    ("caps none.csv 1 60", FINE, Status::ReadFault, b""),
+    ("caps", FIRST_FETCH_FAILS, Status::Usage, b"usage\n"),
+    ("", SMALL, Status::WriteFault, b"usag"),
+    (FREE, FINE, Status::Done, RUN),
+    (FREE, SLOW, Status::Done, RUN),
+    (FREE, THIRD_WRITE_FAILS, Status::WriteFault, b"0 0\n1 20"),
+    (FREE, SMALL, Status::WriteFault, b"0 0\n"),
+    (FREE, FIRST_FETCH_FAILS, Status::ReadFault, b""),
+    (FREE, SECOND_FETCH_FAILS, Status::ReadFault, b""),
+    ("envelope ten.csv none.toml", FINE, Status::ReadFault, b""),
     (
         STEEP,
-        &[],
-        1000,
-        1000,
-        &[],
+        FINE,
         Status::Stalled { point: 256 },
         b"stalled 256\n",
     ),
-    (STEEP, &[], 1000, 4, &[2], Status::WriteFault, b"stal"),
+    (STEEP, THIRD_WRITE_FAILS, Status::WriteFault, b"stalled "),
+    // the line file is judged before the stock file, which isn't there
+    (SHORT, FINE, TOO_SHORT, b"refused 1 1 4\n"),
+    (SHORT, SMALL, Status::WriteFault, b"refu"),
+    (SHORT, FIRST_WRITE_FAILS, Status::WriteFault, b""),
+    (SHORT, FIRST_FETCH_FAILS, Status::ReadFault, b""),
 ];
 
 // The files that the words of the cases name.
@@ -108,6 +111,7 @@ fn shelf_with(alloc: Global, failing: &[u64]) -> Result<MemShelf, Fail> {
         ("lim.csv", LIM),
         ("ten.csv", TEN),
         ("hill.csv", HILL),
+        ("short.csv", b"line,Short,1\n"),
         ("toy.toml", TOY),
     ] {
         files.push((
@@ -121,7 +125,7 @@ fn shelf_with(alloc: Global, failing: &[u64]) -> Result<MemShelf, Fail> {
 #[test]
 fn statuses_and_texts(rt: HostRuntime) -> Result<(), Fail> {
     let alloc = rt.alloc();
-    for (given, shelf_fails, room, most, sink_fails, wanted, text) in CASES {
+    for (given, (shelf_fails, room, most, sink_fails), wanted, text) in CASES {
         let mut shelf = shelf_with(alloc, shelf_fails)?;
         let mut words = Vec::new(alloc);
         for word in given.split(' ') {

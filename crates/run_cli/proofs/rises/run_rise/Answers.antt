@@ -11,12 +11,12 @@ use Rattle.run_cli.proofs.rises.run_rise.Goals as goal
 
 pub returns-in_err-pulls-clause-ends : goal.returns-in_err-pulls-clause-ends
 returns-in_err-pulls-clause-ends g c =
-    StopsAs-memory (g.S.Shelf.files c.args.shelf.now) (λ files. BothFiles (files c.args.line.now) (files c.args.stock.now) (λ l s. Is Done (rise_text l s c.args.kmh)))
+    StopsAs-memory (g.S.Shelf.files c.args.shelf.now) (λ files. BothFiles (files c.args.line_name.now) (files c.args.stock_name.now) (λ l s. Is Done (rise_text l s c.args.kmh)))
     (g.S.Shelf.faults c.args.shelf.now) (g.S.Shelf.faults c.load_both.new.shelf) (g.K.Sink.written c.args.out.now) c.from_residual-in_err-pulls.result (search rules)
 
 pub returns-in_err-shown-clause-ends : goal.returns-in_err-shown-clause-ends
 returns-in_err-shown-clause-ends g c =
-    StopsAs-memory (g.S.Shelf.files c.args.shelf.now) (λ files. BothFiles (files c.args.line.now) (files c.args.stock.now) (λ l s. Is Done (rise_text l s c.args.kmh)))
+    StopsAs-memory (g.S.Shelf.files c.args.shelf.now) (λ files. BothFiles (files c.args.line_name.now) (files c.args.stock_name.now) (λ l s. Is Done (rise_text l s c.args.kmh)))
     (g.S.Shelf.faults c.args.shelf.now) (g.S.Shelf.faults c.load_both.new.shelf) (g.K.Sink.written c.args.out.now) c.from_residual-in_err-shown.result (search rules)
 
 pub rule_of-rule-requires-clause-least : goal.rule_of-rule-requires-clause-least
@@ -36,10 +36,10 @@ returns-in_err-write_rise-clause-ends g c =
     let next : LineTable → StockTable → Answer = λ l s. Is Done (rise_text l s c.args.kmh) in
     let text = lines_below-rise_line c.in_ok-line.line c.in_ok-line.stock c.args.kmh c.rule_of-rule.result c.in_ok-pulls.pulls.items c.as_slice-2.result.now c.min-before.result
     (search rules) c.rule_of-rule.ensures (search rules) (search rules) in
-    StopsAs-short (g.S.Shelf.files c.args.shelf.now) (λ files. BothFiles (files c.args.line.now) (files c.args.stock.now) next) Done
+    StopsAs-short (g.S.Shelf.files c.args.shelf.now) (λ files. BothFiles (files c.args.line_name.now) (files c.args.stock_name.now) next) Done
     (rise_text c.in_ok-line.line c.in_ok-line.stock c.args.kmh) (g.S.Shelf.faults c.args.shelf.now) (g.S.Shelf.faults c.load_both.new.shelf) (g.K.Sink.written c.args.out.now)
     (g.K.Sink.written c.write_rise.new.out) c.from_residual-in_err-write_rise.result
-    (answers-both (g.S.Shelf.files c.args.shelf.now) c.args.line.now c.args.stock.now c.in_ok-line.line c.in_ok-line.stock next Done (rise_text c.in_ok-line.line c.in_ok-line.stock c.args.kmh)
+    (answers-both (g.S.Shelf.files c.args.shelf.now) c.args.line_name.now c.args.stock_name.now c.in_ok-line.line c.in_ok-line.stock next Done (rise_text c.in_ok-line.line c.in_ok-line.stock c.args.kmh)
     c.in_ok-line.ensures.line c.in_ok-line.ensures.stock (record { status_is = refl; text_is = refl })) (rw text at c.in_err-write_rise.ensures.failed) (search rules)
 
 pub returns-in_err-write_rise-clause-steps : goal.returns-in_err-write_rise-clause-steps
@@ -55,10 +55,10 @@ returns-clause-ends g c =
     let next : LineTable → StockTable → Answer = λ l s. Is Done (rise_text l s c.args.kmh) in
     let text = lines_below-rise_line c.in_ok-line.line c.in_ok-line.stock c.args.kmh c.rule_of-rule.result c.in_ok-pulls.pulls.items c.as_slice-2.result.now c.min-before.result
     (search rules) c.rule_of-rule.ensures (search rules) (search rules) in
-    StopsAs-whole (g.S.Shelf.files c.args.shelf.now) (λ files. BothFiles (files c.args.line.now) (files c.args.stock.now) next)
+    StopsAs-whole (g.S.Shelf.files c.args.shelf.now) (λ files. BothFiles (files c.args.line_name.now) (files c.args.stock_name.now) next)
     (rise_text c.in_ok-line.line c.in_ok-line.stock c.args.kmh) (g.S.Shelf.faults c.args.shelf.now) (g.S.Shelf.faults c.load_both.new.shelf) (g.K.Sink.written c.args.out.now)
     (g.K.Sink.written c.write_rise.new.out)
-    (answers-both (g.S.Shelf.files c.args.shelf.now) c.args.line.now c.args.stock.now c.in_ok-line.line c.in_ok-line.stock next Done (rise_text c.in_ok-line.line c.in_ok-line.stock c.args.kmh)
+    (answers-both (g.S.Shelf.files c.args.shelf.now) c.args.line_name.now c.args.stock_name.now c.in_ok-line.line c.in_ok-line.stock next Done (rise_text c.in_ok-line.line c.in_ok-line.stock c.args.kmh)
     c.in_ok-line.ensures.line c.in_ok-line.ensures.stock (record { status_is = refl; text_is = refl })) (rw text at c.in_ok-write_rise.ensures.ok)
 
 pub returns-clause-steps : goal.returns-clause-steps
