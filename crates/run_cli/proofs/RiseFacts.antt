@@ -7,15 +7,14 @@ use Rattle.run_rules.specs.Speeds.{squared}
 use Rattle.step_rule.specs.Motion.{Motion, cells_of, step_rule_of}
 use Rattle.stock_tables.specs.Stock.{StockTable}
 use Rattle.train_mean.specs.Gradients.{gradients_under, pull_of}
-use Rattle.run_cli.specs.Texts.{rise_line, rise_text, train_pulls}
+use Rattle.run_cli.specs.Texts.{rise_line, rise_text, train_pulls, train_rule}
 
 -- a pull for each cell
 pub length-train_pulls : (line : LineTable) (stock : StockTable) (pulls : List ℤ) → pulls ≡ train_pulls line stock → length pulls ≡ line.length
 length-train_pulls line stock pulls e =
     rw (e, length-map-range_with_len (λ cell. pull_of stock.mass stock.length (gradients_under line.slopes stock.length cell)) 0 line.length) refl
 
-pub lines_below-rise_line : (line : LineTable) (stock : StockTable) (kmh : ℕ) (motion : Motion) (pulls shown : List ℤ) (before : ℕ) → pulls ≡ train_pulls line stock
-    → motion ≡ record { push = stock.push; brake = stock.brake; moved = stock.moved_mass; pulls = pulls } → shown ≡ pulls → before ≡ min (squared stock.top) (squared kmh)
+pub lines_below-rise_line : (line : LineTable) (stock : StockTable) (kmh : ℕ) (motion : Motion) (shown : List ℤ) (before : ℕ) → step_rule_of motion ≡ train_rule line stock → cells_of motion ≡ line.length
+    → shown ≡ train_pulls line stock → before ≡ min (squared stock.top) (squared kmh)
     → lines_below (rise_line (step_rule_of motion) shown before) (cells_of motion) ≡ rise_text line stock kmh
-lines_below-rise_line line stock kmh motion pulls shown before p m s b =
-    rw (m, length-train_pulls line stock pulls p, s, b, p) refl
+lines_below-rise_line line stock kmh motion shown before r c p b = rw (r, c, p, b) refl

@@ -52,7 +52,7 @@ StockFile file next s t = WithFile 2 file (λ bytes. WithTable stock_status (sto
 abbrev pub BothFiles : Option (List ℕ) → Option (List ℕ) → (LineTable → StockTable → Answer) → Status → List ℕ → Type 0
 BothFiles line_file stock_file next s t = LineFile line_file (λ line. StockFile stock_file (next line)) s t
 
--- a list by point that is such a one for the train on the line, where it stands at both ends
+-- a list by point of which `is` holds for the train on the line, where it stands at both ends
 pub record IsListed (is : StepRule → List ℕ → List ℕ → Type 0) (line : LineTable) (stock : StockTable) (s : Status) (t : List ℕ) : Type 0 where
   pub status_is : s ≡ Done
   pub list : List ℕ

@@ -17,7 +17,7 @@ pub record StopsBefore (answers : Status → List ℕ → Type 0) (status : Stat
   pub answer : answers status (status_text status)
   pub unwritten : Appends old new []
 
--- what a form wrote by the status that is in its way
+-- what a form has written where that status is in its way
 abbrev pub StopsAt : (Status → List ℕ → Type 0) → ℕ → ℕ → Option (List ℕ) → Option (List ℕ) → Status → Type 0
 StopsAt answers shelf shelf' old new Memory = EndsCut answers old new
 StopsAt answers shelf shelf' old new WriteFault = EndsCut answers old new
@@ -28,7 +28,7 @@ StopsAt answers shelf shelf' old new (Stalled point) = EndsWhole answers (Stalle
 StopsAt answers shelf shelf' old new (TooLong file) = StopsBefore answers (TooLong file) old new
 StopsAt answers shelf shelf' old new Done = ⊥
 
--- what a form wrote that stopped
+-- what a form has written at its end: its whole text, or as the status in its way says
 abbrev pub StopsAs : (Status → List ℕ → Type 0) → ℕ → ℕ → Option (List ℕ) → Option (List ℕ) → Result (Unit {0}) Status → Type 0
 StopsAs answers shelf shelf' old new (Ok u) = EndsWhole answers Done old new
 StopsAs answers shelf shelf' old new (Err status) = StopsAt answers shelf shelf' old new status

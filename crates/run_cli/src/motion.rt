@@ -5,7 +5,7 @@ ghost use Rattle.limit_profile.specs.Profile.{caps};
 ghost use Rattle.run_rules.specs.Runs.{IsBrakingList};
 ghost use Rattle.run_rules.specs.Steps.{IsPull};
 ghost use Rattle.step_rule.specs.Motion.{cells_of, kmh_of, step_rule_of};
-ghost use Rattle.run_cli.specs.Texts.{train_caps, train_rule};
+ghost use Rattle.run_cli.specs.Texts.{train_caps, train_pulls, train_rule};
 
 use brake_caps::walk_back;
 use limit_profile::Limits;
@@ -20,6 +20,7 @@ use unit_rules::{Bound, Memory, Steps};
 // The step rule of a stock on a line.
 pub(crate) fn rule_on(alloc: Global, line: &Line, stock: Stock) -> Result<Rule, Memory>
     ensures rule { IfOk result (λ rule. step_rule_of rule ≡ train_rule line.now stock) }
+    ensures pulls { IfOk result (λ rule. rule.pulls ≡ train_pulls line.now stock) }
     ensures cells { IfOk result (λ rule. cells_of rule ≡ line.now.length) }
     ensures top { IfOk result (λ rule. kmh_of rule ≡ stock.top) }
 {
@@ -30,7 +31,7 @@ pub(crate) fn rule_on(alloc: Global, line: &Line, stock: Stock) -> Result<Rule, 
 }
 
 // The step rule of a stock under these pulls.
-pub(crate) fn rule_of(stock: Stock, pulls: Vec<i64>) -> Rule
+fn rule_of(stock: Stock, pulls: Vec<i64>) -> Rule
     requires least { 2 ≤ vec_len pulls }
     requires most { vec_len pulls ≤ 500000 }
     requires small { All IsPull pulls.items }

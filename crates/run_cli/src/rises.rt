@@ -1,6 +1,6 @@
 //! The form `rise`: what the step rule makes of a speed at each cell of a line.
 
-ghost use Rattle.std.specs.Prelude.{◌≡◌, ◌≤◌, ◌<◌, ◌+◌, ◌*◌, ◌++◌, ◌∷◌, [], min, Some, OnOk, OnErr, IfOk, IfSome};
+ghost use Rattle.std.specs.Prelude.{◌≡◌, ◌≤◌, ◌<◌, ◌+◌, ◌*◌, ◌++◌, ◌∷◌, [], min, Some, OnOk, OnErr, IfSome};
 ghost use Rattle.std.specs.Io.KnownBytes.{Appends};
 ghost use Rattle.run_io.specs.Causes.{HasCause};
 ghost use Rattle.run_io.specs.Pages.{Carries};
@@ -16,7 +16,7 @@ ghost use Rattle.run_cli.specs.Words.{most_steps};
 
 use crate::Status;
 use crate::files::load_both;
-use crate::motion::rule_of;
+use crate::motion::rule_on;
 use crate::words::Form;
 use report_text::put_numbers;
 use run_io::{Failed, Page, Shelf, Sink};
@@ -25,7 +25,7 @@ use std::alloc::Global;
 use std::sync::ledger::Ledger;
 use step_rule::Rule;
 use train_mean::pulls;
-use unit_rules::{Memory, Steps};
+use unit_rules::Steps;
 
 // Writes what the step rule of the stock on the line makes of a speed of `kmh` km/h, or of the top
 // speed where that is less.
@@ -45,21 +45,10 @@ pub(crate) fn run_rise<S: Shelf, K: Sink, L: Ledger>(
 {
     let (line, stock) = load_both(alloc, shelf, line_name, stock_name)?;
     let before = squared(stock.top()).min(squared(kmh));
-    let pulls = pulls(alloc, &line, stock.mass(), stock.length())?;
-    let shown = copied(alloc, pulls.as_slice())?;
-    let rule = rule_of(stock, pulls);
+    let shown = pulls(alloc, &line, stock.mass(), stock.length())?;
+    let rule = rule_on(alloc, &line, stock)?;
     write_rise(out, &rule, shown.as_slice(), before, steps)?;
     Ok(())
-}
-
-// A copy of the pulls, to be shown beside the rule that takes them.
-fn copied(alloc: Global, pulls: &[i64]) -> Result<Vec<i64>, Memory>
-    ensures { IfOk result (λ copy. copy.items ≡ pulls.now) }
-{
-    match Vec::from_slice(alloc, pulls) {
-        Ok(copy) => Ok(copy),
-        Err(_) => Err(Memory),
-    }
 }
 
 // Writes a line for each cell, from the squared speed `before` it.
