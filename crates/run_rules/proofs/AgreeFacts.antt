@@ -6,7 +6,7 @@ use Rattle.unit_rules.specs.declared.Reach.{Reach}
 use Rattle.unit_rules.specs.declared.Reach.TheVariants.{Whole, Stalled}
 use Rattle.run_rules.specs.Drives.{AgreeAt, AgreeOutside, EnvelopesAgreeAfter, EnvelopesAgreeBefore, HoldsEnvelope}
 use Rattle.run_rules.specs.Runs.{IsEnvelopeTo, IsMonotone, IsStalled, ReachesAs, StepRule}
-use Rattle.run_rules.specs.Walks.{EndsAt, IsOlderEnvelope, count_of, known_at}
+use Rattle.run_rules.specs.Walks.{EndsAt, count_of, known_at}
 use Rattle.run_rules.proofs.DrivingFacts.{IsDrivable, IsDrivable-braking_list, IsNextNumber-same}
 use Rattle.run_rules.proofs.EnvelopeFacts.{EndsAt-envelope}
 use Rattle.run_rules.proofs.ResumeFacts.{known_at-some}
@@ -106,32 +106,3 @@ pub envelopes_agree_after : EnvelopesAgreeAfter
 envelopes_agree_after rule cells top from to b c d e n m mono points caps one other i j past later agree =
     let same = caps.same_points in
     AgreeAt-after rule b c d e from to n m i caps (EndsAt-holds rule cells top b d n mono (omega arith) one) (EndsAt-holds rule cells top c e m mono points other) past agree (j - i) j (omega arith)
-
--- an envelope that is held is an older one, where its caps agree with c outside from..=to
-pub IsOlderEnvelope-reaches : (rule : StepRule) (top from to : ℕ) (b c e : List ℕ) (reach : Reach) → AgreeOutside b c from to → HoldsEnvelope rule top b e (count_of (length b) reach) → ReachesAs rule b e reach
-    → IsOlderEnvelope rule top c e from to (count_of (length b) reach)
-IsOlderEnvelope-reaches rule top from to b c e Whole caps holds run = record {
-  older = b;
-  same_points = caps.same_points;
-  small = holds.small;
-  list = holds.list;
-  agrees = caps.agrees;
-  on_line = omega arith;
-  whole = λ h. run;
-  stalled = λ h. absurd (omega arith);
-}
-IsOlderEnvelope-reaches rule top from to b c e (Stalled k) caps holds stall = let on = stall.0.on_line.1 in record {
-  older = b;
-  same_points = caps.same_points;
-  small = holds.small;
-  list = holds.list;
-  agrees = caps.agrees;
-  on_line = omega arith;
-  whole = λ h. absurd (omega arith);
-  stalled = λ h. stall;
-}
-
-pub IsOlderEnvelope-holds : (rule : StepRule) (top from to : ℕ) (b c e : List ℕ) (n : ℕ) → AgreeOutside b c from to → HoldsEnvelope rule top b e n → IsOlderEnvelope rule top c e from to n
-IsOlderEnvelope-holds rule top from to b c e n caps holds =
-    let same = holds.reaches.2 in
-    subst (λ k. IsOlderEnvelope rule top c e from to k) same (IsOlderEnvelope-reaches rule top from to b c e holds.reaches.0 caps (subst (λ k. HoldsEnvelope rule top b e k) (sym same) holds) holds.reaches.1)

@@ -1,4 +1,4 @@
--- Braking lists: by the greatest number at each point, and as caps of their own.
+-- Braking lists: by the greatest number at each point, and taken as caps.
 use Rattle.std.proofs.Common.{◌≡◌, ℕ, zero, suc, ◌+◌, ◌-◌, ◌<◌, ◌≤◌, pos, ◌≤ℤ◌, List, length, replicate, slice_index, set, arith, refl, sym, ◌∙◌, length-set, get_or-set_same, get_or-set_other, inl, inr}
 use Rattle.std.proofs.lemmas.Bool.{cases_eq, cases_lt}
 use Rattle.std.proofs.lemmas.Int.{ints}
@@ -76,21 +76,6 @@ IsGreatestNumber-same rule x c d i u v next same number = record {
   greatest = λ w h brakes. rw same at (number.greatest w h (λ l. rw (← next) at (brakes l)));
 }
 
--- and at the cap at its point alone
-pub IsGreatestAt-recapped : (rule : StepRule) (x y c : List ℕ) (i : ℕ) → length x ≡ length y → slice_index x i ≡ slice_index y i → IsGreatestAt rule x c i → IsGreatestAt rule y c i
-IsGreatestAt-recapped rule x y c i same cap number = record {
-  capped = rw cap at number.capped;
-  braked = λ l. number.braked (omega arith);
-  greatest = λ v h brakes. number.greatest v (rw (← cap) at h) (λ l. brakes (omega arith));
-}
-
--- there is one such number
-pub IsGreatestNumber-unique : (rule : StepRule) (x c : List ℕ) (i u v : ℕ) → IsGreatestNumber rule x c i u → IsGreatestNumber rule x c i v → u ≡ v
-IsGreatestNumber-unique rule x c i u v a b =
-    let most = a.greatest v b.capped b.braked in
-    let least = b.greatest u a.capped a.braked in
-    omega arith
-
 -- it is written at point p, past which all numbers are the greatest
 pub IsGreatestFrom-set : (rule : StepRule) (x c : List ℕ) (p u : ℕ) → length c ≡ length x → p < length x → IsGreatestFrom rule x c (p + 1) → IsGreatestNumber rule x c p u → IsGreatestFrom rule x (set c p u) p
 IsGreatestFrom-set rule x c p u same on each number i h l =
@@ -132,23 +117,6 @@ keeps_caps rule x c q k list keeps =
       braked = λ i l. keeps.braked i (omega arith);
       driven = keeps.driven;
       moving = keeps.moving;
-    }
-
--- a braking list, taken as caps, is its own braking list
-pub own_braking_list : (rule : StepRule) (x c : List ℕ) → IsBrakingList rule x c → IsBrakingList rule c c
-own_braking_list rule x c list = record { keeps = keeps_braking_list rule x c c 0 list list.keeps; greatest = λ q keeps i l. keeps.capped i l }
-
--- c brakes to the next point everywhere, and none of its numbers is above top: what a walk on asks of its caps
-pub record IsBraked (rule : StepRule) (c : List ℕ) (top : ℕ) : Type 0 where
-  pub small : (i : ℕ) → i < length c → slice_index c i ≤ top
-  pub braked : (i : ℕ) → i + 1 < length c → rule.low i (slice_index c i) ≤ℤ pos (slice_index c (i + 1))
-
-pub IsBraked-braking_list : (rule : StepRule) (x c : List ℕ) (top : ℕ) → IsBrakingList rule x c → ((i : ℕ) → i < length x → slice_index x i ≤ top) → IsBraked rule c top
-IsBraked-braking_list rule x c top list small =
-    let same = list.keeps.same_points in
-    record {
-      small = λ i l. let under = list.keeps.capped i (omega arith) in let cap = small i (omega arith) in omega arith;
-      braked = λ i l. list.keeps.braked i (omega arith);
     }
 
 -- a train that stands everywhere stands at each point

@@ -85,21 +85,6 @@ value_between-least low high m part all h s l g =
     let f = floor_div-part_least (high -ℤ low) part all n h s (omega (arith, ints)) in
     omega (arith, ints)
 
--- what bounds the values at whole km/h bounds those between them
-pub value_at-most : (rows : List ℤ) (m : ℤ) (u : ℕ) → u ≤ squared (top_of rows) → ((k : ℕ) → k ≤ top_of rows → row rows k ≤ℤ m) → value_at rows u ≤ℤ m
-value_at-most rows m u l h =
-    let b = whole_kmh-band u in
-    let k = whole_kmh u in
-    let part = u - squared k in
-    let e : u ≡ squared k + part = omega arith in
-    let here = h k (kmh-at_most k (top_of rows) part (omega arith)) in
-    elim (cases_lt 0 part) [
-      | inl p ↦
-          let next = h (k + 1) (omega (arith, kmh-below k (top_of rows) part (omega arith) p)) in
-          rw (value_at-placed rows u k part (band_width k) e (omega arith) refl) (value_between-most (row rows k) (row rows (k + 1)) m part (band_width k) (omega arith) (band_width-some k) here next)
-      | inr z ↦ rw (value_at-row rows u k part (band_width k) e (omega arith) refl (omega arith)) here
-    ]
-
 pub value_at-least : (rows : List ℤ) (m : ℤ) (u : ℕ) → u ≤ squared (top_of rows) → ((k : ℕ) → k ≤ top_of rows → m ≤ℤ row rows k) → m ≤ℤ value_at rows u
 value_at-least rows m u l h =
     let b = whole_kmh-band u in

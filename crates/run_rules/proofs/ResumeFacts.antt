@@ -1,30 +1,11 @@
 -- A walk on that begins again inside a line, where the caps before `from` and past `to` are those of an older walk.
-use Rattle.std.proofs.Common.{◌≡◌, ℕ, ◌+◌, ◌<◌, ◌≤◌, List, slice_index, inl, inr, ap, arith, refl, sym, ◌∙◌, Some, None}
+use Rattle.std.proofs.Common.{◌≡◌, ℕ, ◌+◌, ◌<◌, ◌≤◌, List, slice_index, inl, inr, ap, arith, sym, Some, None}
 use Rattle.std.proofs.lemmas.Bool.{cases_lt}
 use Rattle.std.proofs.lemmas.Bool.Decides.{nat_tests}
 use Rattle.std.specs.Prelude.{if◌then◌else◌, nat_lt}
 use Rattle.run_rules.specs.Runs.{StepRule}
 use Rattle.run_rules.specs.Walks.{EndsAt, IsOlderWalk, known_at}
 use Rattle.run_rules.proofs.DrivingFacts.{IsBlockedAfter-same, IsDriven, IsNextNumber-same}
-
--- the older numbers before the change are driven
-pub IsDriven-older : (rule : StepRule) (c e : List ℕ) (from to n m : ℕ) → IsOlderWalk rule c e from to n → 1 ≤ from → m ≤ n → m ≤ from → IsDriven rule c e m
-IsDriven-older rule c e from to n m walk some known before = record {
-  first = walk.ends.first ∙ walk.agrees 0 (inl some);
-  each = λ i l. IsNextNumber-same rule walk.older c e e i (slice_index e (i + 1)) (slice_index e (i + 1)) (walk.agrees (i + 1) (inl (omega arith))) refl refl (walk.ends.each i (omega arith));
-}
-
--- a walk that ended before the change ends there still
-pub EndsAt-before : (rule : StepRule) (c e : List ℕ) (from to n : ℕ) → IsOlderWalk rule c e from to n → n < from → EndsAt rule c e n
-EndsAt-before rule c e from to n walk l =
-    let driven = IsDriven-older rule c e from to n n walk (omega arith) (omega arith) (omega arith) in
-    record {
-      some = walk.ends.some;
-      on_line = let same = walk.same_points in let on = walk.ends.on_line in omega arith;
-      first = driven.first;
-      each = driven.each;
-      blocked = λ i last h. IsBlockedAfter-same rule walk.older c e e i (walk.agrees (i + 1) (inl (omega arith))) refl (walk.ends.blocked i last (let same = walk.same_points in omega arith));
-    }
 
 -- past the change, from a number on that is as before, all numbers are as before
 pub EndsAt-resumed : (rule : StepRule) (c old e : List ℕ) (from to n i : ℕ) → IsOlderWalk rule c old from to n → to < i → i < n → IsDriven rule c e (i + 1)

@@ -9,11 +9,6 @@ use Rattle.run_rules.proofs.GridFacts.{value_between-most, value_between-least}
 abs_most : (z : ℤ) (m : ℕ) → z ≤ℤ pos m → neg_ℤ (pos m) ≤ℤ z → unsigned_abs z ≤ m
 abs_most z m h l = omega (arith, ints)
 
-pub small_product-fits : (z : ℤ) (part : ℕ) → unsigned_abs z ≤ 900000000000 → part ≤ 10010000 → SFits w64 (z *ℤ pos part)
-small_product-fits z part h p =
-    let abs_part : unsigned_abs (pos part) ≤ 10010000 = omega (arith, ints) in
-    fits_signed_mul w64 z (pos part) 900000000000 10010000 h abs_part (lit< tt)
-
 pub large_product-fits : (z : ℤ) (part : ℕ) → z ≤ℤ pos (2 * 10 ^ 15) → neg_ℤ (pos (2 * 10 ^ 15)) ≤ℤ z → part ≤ 10010000 → SFits w128 (z *ℤ pos part)
 large_product-fits z part h l p =
     let abs_part : unsigned_abs (pos part) ≤ 10010000 = omega (arith, ints) in

@@ -1,5 +1,5 @@
 -- How quotients rounded down compare.
-use Rattle.std.proofs.Common.{◌≡◌, ℕ, zero, suc, min, ◌+◌, ◌-◌, ◌*◌, ◌%◌, ◌<◌, ◌≤◌, ℤ, pos, negsuc, ◌≤ℤ◌, ◌<ℤ◌, ◌+ℤ◌, ◌-ℤ◌, ◌*ℤ◌, arith, refl, ap, mod-lt, div-add-mod', div-le_self, neg_ℤ, unsigned_abs, SFits, ◌∙◌, ◌^◌, mul-le-mul}
+use Rattle.std.proofs.Common.{◌≡◌, ℕ, zero, suc, min, ◌+◌, ◌-◌, ◌*◌, ◌%◌, ◌<◌, ◌≤◌, ℤ, pos, negsuc, ◌≤ℤ◌, ◌<ℤ◌, ◌+ℤ◌, ◌-ℤ◌, ◌*ℤ◌, arith, refl, ap, mod-lt, div-add-mod', div-le_self, neg_ℤ, SFits, ◌∙◌, ◌^◌, mul-le-mul}
 use Rattle.std.specs.Int.{div_ceil, int_div_euclid}
 use mir.Syntax.{w128}
 use Rattle.std.proofs.Math.Nat.{zero-div}
@@ -82,10 +82,6 @@ floor_div-floor a d h =
 pub int_div_euclid-floor : (a b : ℤ) → pos 0 <ℤ b → IsFloorOf a b (int_div_euclid a b)
 int_div_euclid-floor a (pos d) h = floor_div-floor a d (omega (arith, ints))
 int_div_euclid-floor a (negsuc d) h = absurd (omega (arith, ints))
-
-pub int_div_euclid-abs : (a b : ℤ) → pos 0 <ℤ b → int_div_euclid a b ≡ floor_div a (unsigned_abs b)
-int_div_euclid-abs a (pos d) h = refl
-int_div_euclid-abs a (negsuc d) h = absurd (omega (arith, ints))
 
 neg_ℤ-sub : (a : ℤ) → pos 0 -ℤ a ≡ neg_ℤ a
 neg_ℤ-sub a = omega (arith, ints)

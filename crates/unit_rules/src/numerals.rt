@@ -119,17 +119,17 @@ mod tests {
     use super::*;
     use std::test::Fail;
 
+    // The number that a text is read as, where it is read.
+    fn reads(text: &[u8], number: i64) -> bool {
+        read_whole(text) == Some(number)
+    }
+
     #[test]
     fn numerals(rt: HostRuntime) -> Result<(), Fail> {
-        let accepted = [
-            (b"0".as_slice(), 0),
-            (b"-5", -5),
-            (b"9223372036854775807", i64::MAX),
-            (b"-9223372036854775808", i64::MIN),
-        ];
-        for (text, number) in accepted {
-            assert_eq!(rt; read_whole(text), Some(number));
-        }
+        assert!(rt; reads(b"0", 0));
+        assert!(rt; reads(b"-5", -5));
+        assert!(rt; reads(b"9223372036854775807", i64::MAX));
+        assert!(rt; reads(b"-9223372036854775808", i64::MIN));
         let refused = [
             b"".as_slice(),
             b"-",
@@ -143,13 +143,13 @@ mod tests {
             b"99999999999999999999",
         ];
         for text in refused {
-            assert_eq!(rt; read_whole(text), None);
+            assert!(rt; read_whole(text).is_none());
         }
-        assert_eq!(rt; number_in(1, 500, b"500"), Some(500));
-        assert_eq!(rt; number_in(1, 500, b"501"), None);
-        assert_eq!(rt; number_in(0, 500, b"-1"), None);
-        assert_eq!(rt; signed_within(-1000, 1000, -1000), Some(-1000));
-        assert_eq!(rt; signed_within(-1000, 1000, -1001), None);
+        assert!(rt; number_in(1, 500, b"500") == Some(500));
+        assert!(rt; number_in(1, 500, b"501").is_none());
+        assert!(rt; number_in(0, 500, b"-1").is_none());
+        assert!(rt; signed_within(-1000, 1000, -1000) == Some(-1000));
+        assert!(rt; signed_within(-1000, 1000, -1001).is_none());
         Ok(())
     }
 }

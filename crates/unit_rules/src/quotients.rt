@@ -33,11 +33,10 @@ mod tests {
 
     #[test]
     fn quotients_round_down_and_up(rt: HostRuntime) -> Result<(), Fail> {
-        let rows = [(-1406813184, 259200, -5428, -5427), (7, 7, 1, 1)];
-        for (a, b, floor, ceiling) in rows {
-            assert_eq!(rt; div_floor(a, b), floor);
-            assert_eq!(rt; div_ceil(a, b), ceiling);
-        }
+        assert!(rt; div_floor(-1406813184, 259200) == -5428);
+        assert!(rt; div_ceil(-1406813184, 259200) == -5427);
+        assert!(rt; div_floor(7, 7) == 1);
+        assert!(rt; div_ceil(7, 7) == 1);
         Ok(())
     }
 }
