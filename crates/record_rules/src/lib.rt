@@ -39,14 +39,17 @@ pub trait Table {
     /// Takes the next record, or names the least rule that it breaks.
     fn take(&mut self, alloc: Global, row: &ByteRecord) -> Result<(), Stop>
         ensures rule { rule self.new ≡ rule self.old }
-        ensures taken { (before : List Record) → says self.old before → TakesOne (rule self.old before (fields_of row.now)) (says self.new (before ++ fields_of row.now ∷ [])) result };
+        ensures taken { (before : List Record) → says self.old before
+            → TakesOne (rule self.old before (fields_of row.now))
+            (says self.new (before ++ fields_of row.now ∷ [])) result };
 }
 
 /// Takes the records of a file in their order, up to the first that breaks a rule: commas, double
 /// quotes, no header, and any number of fields.
 pub fn read_records<T: Table>(alloc: Global, bytes: &[u8], table: &mut T) -> Result<(), RecordFault>
     requires { T.says table.old [] }
-    ensures { ReadsAll (first_fault (T.rule table.old) [] (file_records bytes.now)) (T.says table.new (file_records bytes.now)) result }
+    ensures { ReadsAll (first_fault (T.rule table.old) [] (file_records bytes.now))
+        (T.says table.new (file_records bytes.now)) result }
 {
     let mut reader = ReaderBuilder::new()
         .has_headers(false)
