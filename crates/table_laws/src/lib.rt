@@ -82,7 +82,8 @@ impl Bands {
         ensures law { result ≡ self.now.law }
         ensures kept { IsLawful self.now }
         ensures between { (u : ℕ) → u < squared (top_of self.now.rows)
-            → MovesWithin self.now.law 1 (value_at self.now.rows u) (value_at self.now.rows (u + 1)) }
+            → MovesWithin self.now.law 1
+            (value_at self.now.rows u) (value_at self.now.rows (u + 1)) }
     {
         self.law
     }
@@ -150,22 +151,14 @@ mod tests {
     #[test]
     fn laws_just_met_and_just_broken(rt: HostRuntime) -> Result<(), Fail> {
         let effort = Law::Drop { per: 259200 };
-        assert_eq!(rt;
-            first_break(vec![in rt.alloc(); 2592000000, 0, 0]?, effort),
-            None
-        );
-        assert_eq!(rt;
-            first_break(vec![in rt.alloc(); 2592259200, 0, 0]?, effort),
-            Some(0)
-        );
-        assert_eq!(rt;
-            first_break(vec![in rt.alloc(); 12960, 22809]?, Law::Climb),
-            None
-        );
-        assert_eq!(rt;
-            first_break(vec![in rt.alloc(); 12960, 25920]?, Law::Climb),
-            Some(0)
-        );
+        let met = vec![in rt.alloc(); 2592000000, 0, 0]?;
+        assert!(rt; first_break(met, effort).is_none());
+        let broken = vec![in rt.alloc(); 2592259200, 0, 0]?;
+        assert!(rt; first_break(broken, effort) == Some(0));
+        let met = vec![in rt.alloc(); 12960, 22809]?;
+        assert!(rt; first_break(met, Law::Climb).is_none());
+        let broken = vec![in rt.alloc(); 12960, 25920]?;
+        assert!(rt; first_break(broken, Law::Climb) == Some(0));
         Ok(())
     }
 
@@ -175,11 +168,11 @@ mod tests {
         let bands = Bands::new(vec![in rt.alloc(); 2592000000, 0]?, effort).expect(&rt, "lawful");
         let top = bands.top();
         assert!(rt; top == 1);
-        assert_eq!(rt; bands.law(), effort);
-        assert_eq!(rt; bands.row(0), 2592000000);
-        assert_eq!(rt; bands.at(0), 2592000000);
-        assert_eq!(rt; bands.at(5000), 1296000000);
-        assert_eq!(rt; bands.at(10000), 0);
+        assert!(rt; bands.law() == effort);
+        assert!(rt; bands.row(0) == 2592000000);
+        assert!(rt; bands.at(0) == 2592000000);
+        assert!(rt; bands.at(5000) == 1296000000);
+        assert!(rt; bands.at(10000) == 0);
         Ok(())
     }
 }
