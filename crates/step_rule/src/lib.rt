@@ -33,9 +33,19 @@ impl Model for Rule {
 
     ghost Value = { Motion };
 
-    ghost view = { λ r. record { push = r.push; brake = r.brake; moved = r.moved; pulls = r.pulls.items } };
+    ghost view = { λ r. record {
+      push = r.push;
+      brake = r.brake;
+      moved = r.moved;
+      pulls = r.pulls.items;
+    } };
 
-    ghost invariant = { λ r. IsMotion (record { push = r.push; brake = r.brake; moved = r.moved; pulls = r.pulls.items }) };
+    ghost invariant = { λ r. IsMotion (record {
+      push = r.push;
+      brake = r.brake;
+      moved = r.moved;
+      pulls = r.pulls.items;
+    }) };
 }
 
 impl Rule {
@@ -50,7 +60,12 @@ impl Rule {
         requires cells_least { 2 ≤ vec_len pulls }
         requires cells_most { vec_len pulls ≤ 500000 }
         requires pulls_small { All IsPull pulls.items }
-        ensures { result ≡ record { push = push; brake = brake; moved = moved; pulls = pulls.items } }
+        ensures { result ≡ record {
+          push = push;
+          brake = brake;
+          moved = moved;
+          pulls = pulls.items;
+        } }
     {
         let _push = push.top();
         let _brake = brake.top();
@@ -67,7 +82,8 @@ impl Rule {
     pub fn cells(&self) -> u32
         ensures cells { result ≡ cells_of self.now }
         ensures kept { IsMotion self.now }
-        ensures monotone { IsMonotone (step_rule_of self.now) (cells_of self.now) (most_of self.now) }
+        ensures monotone { IsMonotone (step_rule_of self.now)
+            (cells_of self.now) (most_of self.now) }
     {
         self.pulls.len() as u32
     }

@@ -1,11 +1,12 @@
 //! What the definitions mean in numbers, for a toy train of 259200 kg with brakes of 25920.
 
-ghost use Rattle.std.specs.Prelude.{◌≡◌, ◌^◌, ◌≤◌, pos, neg_ℤ, ◌≤ℤ◌, ◌∷◌, replicate, IfOk};
+ghost use Rattle.std.specs.Prelude.{◌≡◌, ◌^◌, ◌≤◌, pos, neg_ℤ, ◌≤ℤ◌, IfOk};
 ghost use Rattle.run_rules.specs.Steps.{IsPull};
+ghost use Rattle.table_laws.proofs.ToyFacts.{toy_rows};
 ghost use Rattle.step_rule.specs.Motion.{kmh_of};
 
 use super::*;
-use std::alloc::{AllocError, Global};
+use std::alloc::Global;
 use std::marker::Brand;
 use std::process::Abort;
 use std::sync::ledger::Blank;
@@ -38,13 +39,17 @@ const HILLS: [(i64, i32); 20] = [
     (13181626368, -30856),
 ];
 
-// One value at 0 km/h and another at 1 to 60 km/h.
-fn rows(alloc: Global, first: i64, rest: i64) -> Result<Vec<i64>, AllocError>
-    ensures { IfOk result (λ rows. rows.items ≡ first ∷ replicate 60 rest) }
+// The table with one value at 0 km/h and another at 1 to 60 km/h.
+fn table(rt: &impl Abort, alloc: Global, first: i64, rest: i64, law: Law) -> Result<Bands, Fail>
+    requires first_least { pos 0 ≤ℤ first }
+    requires first_most { first ≤ℤ pos (10 ^ 13) }
+    requires rest_least { pos 0 ≤ℤ rest }
+    requires rest_most { rest ≤ℤ pos (10 ^ 13) }
+    ensures { IfOk result (λ bands. bands ≡ record { rows = toy_rows first rest; law = law }) }
 {
     let mut rows = vec![in alloc; rest; 61]?;
     rows[0] = first;
-    Ok(rows)
+    Ok(Bands::new(rows, law).expect(rt, "lawful"))
 }
 
 // The rule of the toy train with that push, on a line of two cells with the same pull.
@@ -56,9 +61,8 @@ fn toy(rt: &impl Abort, alloc: Global, first: i64, rest: i64, pull: i64) -> Resu
     requires pull { IsPull pull }
     ensures { IfOk result (λ rule. kmh_of rule ≡ 60) }
 {
-    let effort = Law::Drop { per: 259200 };
-    let push = Bands::new(rows(alloc, first, rest)?, effort).expect(rt, "lawful");
-    let brake = Bands::new(rows(alloc, 25920, 25920)?, Law::Climb).expect(rt, "lawful");
+    let push = table(rt, alloc, first, rest, Law::Drop { per: 259200 })?;
+    let brake = table(rt, alloc, 25920, 25920, Law::Climb)?;
     Ok(Rule::new(push, brake, 259200, vec![in alloc; pull; 2]?))
 }
 
@@ -75,6 +79,19 @@ fn bounds<L: Ledger>(rule: &Rule, u: u32, blank: Blank) -> (i64, i64)
     (rule.up(0, u, &mut steps), rule.low(0, u, &mut steps))
 }
 
+// Whether full effort adds `increment` to the squared speed in the first cell, from a standstill to the
+// top speed.
+fn adds(rule: &Rule, increment: i64) -> bool
+    requires top { kmh_of rule.now ≡ 60 }
+{
+    let (first, _low) = bounds::<Brand>(rule, 0, Blank::new(1));
+    let (slow, _low) = bounds::<Brand>(rule, 5000, Blank::new(1));
+    let (fast, _low) = bounds::<Brand>(rule, 36000000, Blank::new(1));
+    first == increment
+        && slow.checked_sub(5000) == Some(increment)
+        && fast.checked_sub(36000000) == Some(increment)
+}
+
 // The greatest squared speed up to `most` before the first cell from which the train can stand after it.
 fn back<L: Ledger>(rule: &Rule, most: u32, blank: Blank) -> u32
     requires name { blank.name ≡ L.name }
@@ -89,24 +106,30 @@ fn back<L: Ledger>(rule: &Rule, most: u32, blank: Blank) -> u32
 }
 
 #[test]
-fn steps_of_the_toy_train(rt: HostRuntime) -> Result<(), Fail> {
-    for (pull, increment) in HILLS {
+fn full_effort_on_hills(rt: HostRuntime) -> Result<(), Fail> {
+    for i in 0..HILLS.len() {
+        let (pull, increment) = HILLS[i];
         assert!(rt; pull.unsigned_abs() < 100_000_000_000);
         let rule = toy(&rt, rt.alloc(), FLAT, FLAT, pull)?;
-        for u in [0, 5000, 36000000] {
-            let (up, _low) = bounds::<Brand>(&rule, u, Blank::new(1));
-            assert!(rt; up == i64::from(u) + i64::from(increment));
-        }
+        assert!(rt; adds(&rule, i64::from(increment)));
     }
-    let level = toy(&rt, rt.alloc(), FLAT, FLAT, 0)?;
-    assert!(rt; level.top() == 60);
-    assert!(rt; level.cells() == 2);
-    for (most, answer) in [(36000000, 25920), (10000, 10000)] {
-        assert!(rt; back::<Brand>(&level, most, Blank::new(1)) == answer);
-    }
-    let starting = toy(&rt, rt.alloc(), 2592000000, 0, 0)?;
-    for (u, up, low) in [(0, 10000, -25920), (10000, 10000, -15920)] {
-        assert!(rt; bounds::<Brand>(&starting, u, Blank::new(1)) == (up, low));
-    }
+    Ok(())
+}
+
+#[test]
+fn brakes_on_the_level(rt: HostRuntime) -> Result<(), Fail> {
+    let rule = toy(&rt, rt.alloc(), FLAT, FLAT, 0)?;
+    assert!(rt; rule.top() == 60);
+    assert!(rt; rule.cells() == 2);
+    assert!(rt; back::<Brand>(&rule, 36000000, Blank::new(1)) == 25920);
+    assert!(rt; back::<Brand>(&rule, 10000, Blank::new(1)) == 10000);
+    Ok(())
+}
+
+#[test]
+fn effort_at_a_standstill_alone(rt: HostRuntime) -> Result<(), Fail> {
+    let rule = toy(&rt, rt.alloc(), 2592000000, 0, 0)?;
+    assert!(rt; bounds::<Brand>(&rule, 0, Blank::new(1)) == (10000, -25920));
+    assert!(rt; bounds::<Brand>(&rule, 10000, Blank::new(1)) == (10000, -15920));
     Ok(())
 }
