@@ -3,7 +3,7 @@
 #![tactic(auto)]
 
 ghost use Rattle.std.specs.Prelude.{◌≡◌, ◌≢◌, ℕ, ◌+◌, ◌<◌, ◌≤◌, pos, ◌≤ℤ◌, ◌↔◌, List, length, slice_index, IfNone, IfSome, IsTrue, Some};
-ghost use Rattle.run_rules.specs.Drives.{EnvelopesAgreeAfter, EnvelopesAgreeBefore, IsOnlyReach, reach_of};
+ghost use Rattle.run_rules.specs.Drives.{AgreeAt, EnvelopesAgreeAfter, EnvelopesAgreeBefore, IsOnlyReach, reach_of};
 ghost use Rattle.run_rules.specs.Runs.{IsBrakingList, ReachesAs};
 ghost use Rattle.run_rules.specs.Walks.{EndsAt, IsBlockedAfter, IsNextNumber, IsOlderEnvelope, IsOlderWalk, count_of, known_at};
 ghost use Rattle.step_rule.specs.Motion.{cells_of, most_of, step_rule_of};
@@ -64,10 +64,10 @@ pub fn walk_on<L: Ledger>(
     ensures first_cost { known ≡ 0 → steps.new ≤ steps.old + cells_of rule.now }
 {
     let cells = rule.cells();
-    let drive = drive_on(rule, c, from, to, e, known, steps);
+    let end = drive(rule, c, Part { from, to, known }, e, steps);
     Walk {
-        reach: reach_with(drive.known, cells),
-        last: drive.last,
+        reach: reach_with(end.known, cells),
+        last: end.last,
     }
 }
 
@@ -79,69 +79,61 @@ pub fn laws_of_envelopes()
     ensures after { EnvelopesAgreeAfter }
 {}
 
-// How many numbers are known, and the last point whose number may differ from before.
+// The part of a line whose caps changed, `from..=to`, and how many numbers from before are known.
+#[derive(Clone, Copy)]
+struct Part {
+    from: u32,
+    to: u32,
+    known: u32,
+}
+
+// How many numbers are known in the end, and the last point whose number may differ from before.
 #[derive(Drop)]
-struct Drive {
+struct End {
     known: u32,
     last: u32,
 }
 
-// Drives on from the cell before point `from`, until no number follows or the older ones stand.
-fn drive_on<L: Ledger>(
-    rule: &Rule,
-    c: &[u32],
-    from: u32,
-    to: u32,
-    e: &mut [u32],
-    known: u32,
-    steps: &mut Steps<L>,
-) -> Drive
+// Drives on from the cell before `part`, until no number follows or those from before stand.
+fn drive<L: Ledger>(rule: &Rule, c: &[u32], part: Part, e: &mut [u32], steps: &mut Steps<L>) -> End
     requires points { length c.now ≡ cells_of rule.now + 1 }
     requires same_points { length e.old ≡ length c.now }
     requires in_range { (i : ℕ) → i < length c.now → slice_index c.now i ≤ most_of rule.now }
-    requires ordered { from ≤ to }
-    requires on_line { to ≤ cells_of rule.now }
-    requires first { known ≡ 0 → (from ≡ 0) × (to ≡ cells_of rule.now) }
-    requires older { 1 ≤ known → IsOlderWalk (step_rule_of rule.now) c.now e.old from to known }
+    requires ordered { part.from ≤ part.to }
+    requires on_line { part.to ≤ cells_of rule.now }
+    requires first { part.known ≡ 0 → (part.from ≡ 0) × (part.to ≡ cells_of rule.now) }
+    requires older { 1 ≤ part.known
+        → IsOlderWalk (step_rule_of rule.now) c.now e.old part.from part.to part.known }
     ensures ends { EndsAt (step_rule_of rule.now) c.now e.new result.known }
-    ensures last_least { to ≤ result.last }
+    ensures last_least { part.to ≤ result.last }
     ensures last_most { result.last ≤ cells_of rule.now }
-    ensures same_before { (i : ℕ) → i < from
-        → known_at e.new result.known i ≡ known_at e.old known i }
-    ensures same_past { (i : ℕ) → result.last < i
-        → known_at e.new result.known i ≡ known_at e.old known i }
-    ensures differs { (i : ℕ) → to < i → i ≤ result.last
-        → known_at e.new result.known i ≢ known_at e.old known i }
-    ensures cost { steps.new + from ≤ steps.old + result.last + 2 }
-    ensures first_cost { known ≡ 0 → steps.new ≤ steps.old + cells_of rule.now }
+    ensures same_before { (i : ℕ) → i < part.from → AgreeAt e.new result.known e.old part.known i }
+    ensures same_past { (i : ℕ) → result.last < i → AgreeAt e.new result.known e.old part.known i }
+    ensures differs { (i : ℕ) → part.to < i → i ≤ result.last
+        → AgreeAt e.new result.known e.old part.known i → ⊥ }
+    ensures cost { steps.new + part.from ≤ steps.old + result.last + 2 }
+    ensures first_cost { part.known ≡ 0 → steps.new ≤ steps.old + cells_of rule.now }
 {
+    let Part { from, to, known } = part;
     let cells = rule.cells();
     if known < from {
-        return Drive { known, last: to };
+        return End { known, last: to };
     }
     if from == 0 {
         e[0] = c[0];
     }
     for i in from.saturating_sub(1)..cells {
-        match number_after(rule, c, i, e, steps) {
-            None => {
-                return Drive {
-                    known: i + 1,
-                    last: to.max(known.max(i + 1) - 1),
-                };
-            }
-            Some(number) => {
-                if i >= to && stands(e, known, i + 1, number) {
-                    return Drive { known, last: i };
-                }
-                e[i as usize + 1] = number;
-            }
+        let Some(number) = number_after(rule, c, i, e, steps) else {
+            let last = to.max(known.max(i + 1) - 1);
+            return End { known: i + 1, last };
+        };
+        if i >= to && stands(e, known, i + 1, number) {
+            return End { known, last: i };
         }
+        e[i as usize + 1] = number;
     }
-    Drive {
-        known: cells + 1,
-        last: cells,
-    }
+    let known = cells + 1;
+    End { known, last: cells }
 }
 
 // The number after cell `i`, if there is one.

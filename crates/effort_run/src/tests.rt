@@ -20,6 +20,11 @@ const FREE: [u32; 11] = [
 
 const STOPS: [u32; 11] = [0, 103680, 77760, 51840, 25920, 0, 0, 77760, 51840, 25920, 0];
 
+// The run with no stop on the way.
+const RUN: [u32; 11] = [
+    0, 20000, 40000, 60000, 80000, 100000, 103680, 77760, 51840, 25920, 0,
+];
+
 // The table with one value at each speed up to 60 km/h.
 fn level(rt: &impl Abort, alloc: Global, value: i64, law: Law) -> Result<Bands, Fail>
     requires least { pos 0 ≤ℤ value }
@@ -77,18 +82,21 @@ fn walk_over<L: Ledger>(
 }
 
 #[test]
-fn runs_and_stalls_of_the_toy_train(rt: HostRuntime) -> Result<(), Fail> {
+fn runs_with_no_stop_on_the_way(rt: HostRuntime) -> Result<(), Fail> {
     let rule = toy(&rt, rt.alloc())?;
     let mut e = [0; 11];
     let free = walk_over::<Brand>(&rt, &rule, &FREE, &mut e, Blank::new(1));
     assert!(rt; free == Reach::Whole);
-    assert!(rt;
-        e == [
-            0, 20000, 40000, 60000, 80000, 100000, 103680, 77760, 51840, 25920, 0
-        ]
-    );
+    assert!(rt; e == RUN);
+    Ok(())
+}
+
+#[test]
+fn stalls_between_two_stops(rt: HostRuntime) -> Result<(), Fail> {
+    let rule = toy(&rt, rt.alloc())?;
+    let mut e = [0; 11];
     let stops = walk_over::<Brand>(&rt, &rule, &STOPS, &mut e, Blank::new(1));
     assert!(rt; stops == Reach::Stalled { k: 6 });
-    assert!(rt; e[..6] == [0, 20000, 40000, 51840, 25920, 0]);
+    assert!(rt; e.starts_with(&[0, 20000, 40000, 51840, 25920, 0]));
     Ok(())
 }

@@ -2,7 +2,7 @@ use Rattle.std.proofs.Common.{◌≡◌, ◌≢◌, ℕ, ◌+◌, ◌-◌, ◌<�
 use Rattle.run_rules.specs.Walks.{known_at}
 use Rattle.run_rules.proofs.DrivingFacts.{IsDriven}
 use Rattle.step_rule.specs.Motion.{step_rule_of}
-use Rattle.effort_run.proofs.drive_on.Given as goal
+use Rattle.effort_run.proofs.drive.Given as goal
 
 -- the numbers up to point i are driven, and those past it are as before
 abbrev pub invariant-loop-i : goal.invariant-loop-i
