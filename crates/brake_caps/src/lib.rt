@@ -35,7 +35,8 @@ pub fn walk_back<L: Ledger>(
     requires on_line { to ≤ limits.now.length }
     requires past { (i : ℕ) → to < i → i ≤ limits.now.length
         → IsGreatestAt (step_rule_of rule.now) (caps limits.now) c.old i }
-    requires before { (i : ℕ) → i < from → IsGreatestAt (step_rule_of rule.now) (caps limits.now) c.old i }
+    requires before { (i : ℕ) → i < from
+        → IsGreatestAt (step_rule_of rule.now) (caps limits.now) c.old i }
     ensures list { IsBrakingList (step_rule_of rule.now) (caps limits.now) c.new }
     ensures lowest { result ≤ from }
     ensures kept { (i : ℕ) → i < result → slice_index c.new i ≡ slice_index c.old i }

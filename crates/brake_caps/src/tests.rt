@@ -1,11 +1,11 @@
 //! What the definitions mean in numbers, for a toy train of 259200 kg whose brakes take 25920 from its
 //! squared speed at each metre.
 
-ghost use Rattle.std.specs.Prelude.{◌≡◌, length, replicate, IfOk};
+ghost use Rattle.std.specs.Prelude.{◌≡◌, ◌^◌, pos, ◌≤ℤ◌, length, replicate, IfOk};
 ghost use Rattle.step_rule.specs.Motion.{cells_of, kmh_of};
 
 use super::*;
-use std::alloc::{AllocError, Global};
+use std::alloc::Global;
 use std::marker::Brand;
 use std::process::Abort;
 use std::sync::ledger::Blank;
@@ -39,11 +39,13 @@ const LISTS: [(u32, u32, [u32; 11]); 4] = [
     (TOP, TOP, [TOP; 11]),
 ];
 
-// The same value at 0 to 60 km/h.
-fn rows(alloc: Global, value: i64) -> Result<Vec<i64>, AllocError>
-    ensures { IfOk result (λ rows. rows.items ≡ replicate 61 value) }
+// The table with one value at each speed up to 60 km/h.
+fn level(rt: &impl Abort, alloc: Global, value: i64, law: Law) -> Result<Bands, Fail>
+    requires least { pos 0 ≤ℤ value }
+    requires most { value ≤ℤ pos (10 ^ 13) }
+    ensures { IfOk result (λ bands. bands ≡ record { rows = replicate 61 value; law = law }) }
 {
-    vec![in alloc; value; 61]
+    Ok(Bands::new(vec![in alloc; value; 61]?, law).expect(rt, "lawful"))
 }
 
 // The rule of the toy train on a level line of ten cells.
@@ -51,9 +53,8 @@ fn toy(rt: &impl Abort, alloc: Global) -> Result<Rule, Fail>
     ensures top { IfOk result (λ rule. kmh_of rule ≡ 60) }
     ensures cells { IfOk result (λ rule. cells_of rule ≡ 10) }
 {
-    let effort = Law::Drop { per: 259200 };
-    let push = Bands::new(rows(alloc, 5184000000)?, effort).expect(rt, "lawful");
-    let brake = Bands::new(rows(alloc, 25920)?, Law::Climb).expect(rt, "lawful");
+    let push = level(rt, alloc, 5184000000, Law::Drop { per: 259200 })?;
+    let brake = level(rt, alloc, 25920, Law::Climb)?;
     Ok(Rule::new(push, brake, 259200, vec![in alloc; 0; 10]?))
 }
 
@@ -81,18 +82,23 @@ fn brake<L: Ledger>(rule: &Rule, limits: &Limits, c: &mut [u32], blank: Blank) -
     walk_back(rule, limits, 0, 10, c, &mut steps)
 }
 
+// Whether the walk back between bounds at the two ends makes the list.
+fn makes(rt: &impl Abort, alloc: Global, rule: &Rule, row: (u32, u32, [u32; 11])) -> bool
+    requires cells { cells_of rule.now ≡ 10 }
+    requires kmh { kmh_of rule.now ≡ 60 }
+{
+    let (first, last, list) = row;
+    let limits = bounded(alloc, first, last).expect(rt, "memory");
+    let mut c = [7; 11];
+    let lowest = brake::<Brand>(rule, &limits, &mut c, Blank::new(1));
+    lowest == 0 && c == list
+}
+
 #[test]
 fn braking_lists_of_the_toy_train(rt: HostRuntime) -> Result<(), Fail> {
     let rule = toy(&rt, rt.alloc())?;
-    for (first, last, list) in LISTS {
-        let limits = bounded(rt.alloc(), first, last);
-        assert!(rt; limits.is_ok());
-        let Ok(limits) = limits else {
-            return Ok(());
-        };
-        let mut c = [7; 11];
-        assert!(rt; brake::<Brand>(&rule, &limits, &mut c, Blank::new(1)) == 0);
-        assert!(rt; c == list, "bounds {first} and {last}");
+    for i in 0..LISTS.len() {
+        assert!(rt; makes(&rt, rt.alloc(), &rule, LISTS[i]), "list {i}");
     }
     Ok(())
 }

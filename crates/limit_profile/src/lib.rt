@@ -28,9 +28,21 @@ impl Model for Limits {
 
     ghost Value = { Profile };
 
-    ghost view = { λ l. record { length = l.length; train = l.train; top = l.top; zones = l.zones.items; bounds = l.bounds.items } };
+    ghost view = { λ l. record {
+      length = l.length;
+      train = l.train;
+      top = l.top;
+      zones = l.zones.items;
+      bounds = l.bounds.items;
+    } };
 
-    ghost invariant = { λ l. IsProfile (record { length = l.length; train = l.train; top = l.top; zones = l.zones.items; bounds = l.bounds.items }) };
+    ghost invariant = { λ l. IsProfile (record {
+      length = l.length;
+      train = l.train;
+      top = l.top;
+      zones = l.zones.items;
+      bounds = l.bounds.items;
+    }) };
 }
 
 impl Limits {
@@ -44,8 +56,20 @@ impl Limits {
         zones: &[Zone],
         bounds: &[Bound],
     ) -> Result<Limits, Memory>
-        requires { IsProfile (record { length = length; train = train; top = top; zones = zones.now; bounds = bounds.now }) }
-        ensures { IfOk result (λ l. l ≡ record { length = length; train = train; top = top; zones = zones.now; bounds = bounds.now }) }
+        requires { IsProfile (record {
+          length = length;
+          train = train;
+          top = top;
+          zones = zones.now;
+          bounds = bounds.now;
+        }) }
+        ensures { IfOk result (λ l. l ≡ record {
+          length = length;
+          train = train;
+          top = top;
+          zones = zones.now;
+          bounds = bounds.now;
+        }) }
     {
         let (Ok(zones), Ok(bounds)) = (
             Vec::from_slice(alloc, zones),

@@ -1,4 +1,4 @@
-use Rattle.brake_caps.proofs.tests.braking_lists_of_the_toy_train.Given as goal
+use Rattle.brake_caps.proofs.tests.makes.Given as goal
 
 abbrev pub ghosts-brake : goal.ghosts-brake
 ghosts-brake g a = record { name = a.blank.name; parts = a.blank.parts }
