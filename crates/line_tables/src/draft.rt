@@ -32,9 +32,19 @@ impl Model for Draft {
 
     ghost Value = { DraftTable };
 
-    ghost view = { λ d. record { line = d.line; slopes = d.slopes.items; limits = d.limits.items; points = d.points } };
+    ghost view = { λ d. record {
+      line = d.line;
+      slopes = d.slopes.items;
+      limits = d.limits.items;
+      points = d.points;
+    } };
 
-    ghost invariant = { λ d. IsDraft (record { line = d.line; slopes = d.slopes.items; limits = d.limits.items; points = d.points }) };
+    ghost invariant = { λ d. IsDraft (record {
+      line = d.line;
+      slopes = d.slopes.items;
+      limits = d.limits.items;
+      points = d.points;
+    }) };
 }
 
 impl Draft {
@@ -72,7 +82,8 @@ impl Draft {
 
     fn take_line(&mut self, alloc: Global, row: &ByteRecord) -> Result<(), Stop>
         requires { kind_of (field (fields_of row.now) 0) ≡ Some Kind.Line }
-        ensures { TakesOne (line_rule self.old (fields_of row.now)) (self.new ≡ with_record self.old (fields_of row.now)) result }
+        ensures { TakesOne (line_rule self.old (fields_of row.now))
+            (self.new ≡ with_record self.old (fields_of row.now)) result }
     {
         let length = match self.read_length(row) {
             Ok(length) => length,
@@ -87,7 +98,8 @@ impl Draft {
 
     fn take_gradient(&mut self, row: &ByteRecord) -> Result<(), Stop>
         requires { kind_of (field (fields_of row.now) 0) ≡ Some Kind.Gradient }
-        ensures { TakesOne (gradient_rule self.old (fields_of row.now)) (self.new ≡ with_record self.old (fields_of row.now)) result }
+        ensures { TakesOne (gradient_rule self.old (fields_of row.now))
+            (self.new ≡ with_record self.old (fields_of row.now)) result }
     {
         let slope = match self.read_slope(row) {
             Ok(slope) => slope,
@@ -101,7 +113,8 @@ impl Draft {
 
     fn take_limit(&mut self, row: &ByteRecord) -> Result<(), Stop>
         requires { kind_of (field (fields_of row.now) 0) ≡ Some Kind.Limit }
-        ensures { TakesOne (limit_rule self.old (fields_of row.now)) (self.new ≡ with_record self.old (fields_of row.now)) result }
+        ensures { TakesOne (limit_rule self.old (fields_of row.now))
+            (self.new ≡ with_record self.old (fields_of row.now)) result }
     {
         let zone = match self.read_zone(row) {
             Ok(zone) => zone,
@@ -115,7 +128,8 @@ impl Draft {
 
     fn take_point(&mut self, alloc: Global, row: &ByteRecord) -> Result<(), Stop>
         requires { kind_of (field (fields_of row.now) 0) ≡ Some Kind.Point }
-        ensures { TakesOne (point_rule self.old (fields_of row.now)) (self.new ≡ with_record self.old (fields_of row.now)) result }
+        ensures { TakesOne (point_rule self.old (fields_of row.now))
+            (self.new ≡ with_record self.old (fields_of row.now)) result }
     {
         let position = match self.read_position(row) {
             Ok(position) => position,
@@ -132,7 +146,8 @@ impl Draft {
 
     // Takes the next record, or names the least rule that it breaks.
     fn take_record(&mut self, alloc: Global, row: &ByteRecord) -> Result<(), Stop>
-        ensures { TakesOne (rule_after self.old (fields_of row.now)) (self.new ≡ with_record self.old (fields_of row.now)) result }
+        ensures { TakesOne (rule_after self.old (fields_of row.now))
+            (self.new ≡ with_record self.old (fields_of row.now)) result }
     {
         match kind_of(field(row, 0)) {
             None => Err(Stop::Broken { rule: 1 }),

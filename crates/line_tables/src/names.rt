@@ -1,9 +1,9 @@
 //! Names of lines and points.
 
-ghost use Rattle.std.specs.Prelude.{◌≡◌, ◌<◌, ◌-◌, ◌==◌, ◌&&◌, not, length, slice_index};
+ghost use Rattle.std.specs.Prelude.{◌≡◌, ◌<◌, length};
 ghost use Rattle.std.specs.List.{list_all};
 ghost use Rattle.std.specs.Str.{is_utf8};
-ghost use Rattle.line_tables.specs.Names.{is_name, is_name_byte};
+ghost use Rattle.line_tables.specs.Names.{is_name, is_name_byte, is_tight};
 
 use std::marker::Model;
 
@@ -60,7 +60,7 @@ fn are_name_bytes(bytes: &[u8]) -> bool
 // Whether there is no space at either end.
 fn is_tight(bytes: &[u8]) -> bool
     requires { 0 < length bytes.now }
-    ensures { result ≡ (not (slice_index bytes.now 0 == 32) && not (slice_index bytes.now (length bytes.now - 1) == 32)) }
+    ensures { result ≡ is_tight bytes.now }
 {
     bytes[0] != b' ' && bytes[bytes.len() - 1] != b' '
 }

@@ -41,7 +41,8 @@ impl Points {
     // Adds a point, of a name that no point has yet, at the end.
     pub(crate) fn add(&mut self, name: Vec<u8>, at: u32) -> Result<(), AllocError>
         requires { find_point name.items self.old ≡ None }
-        ensures { self.new ≡ (if is_ok result then self.old ++ (name.items, at) ∷ [] else self.old) }
+        ensures { self.new
+            ≡ (if is_ok result then self.old ++ (name.items, at) ∷ [] else self.old) }
     {
         self.positions.insert(name, at)?;
         Ok(())

@@ -37,9 +37,21 @@ impl Model for Line {
 
     ghost Value = { LineTable };
 
-    ghost view = { λ l. record { name = l.name; length = l.length; slopes = l.slopes.items; limits = l.limits.items; points = l.points } };
+    ghost view = { λ l. record {
+      name = l.name;
+      length = l.length;
+      slopes = l.slopes.items;
+      limits = l.limits.items;
+      points = l.points;
+    } };
 
-    ghost invariant = { λ l. IsLine (record { name = l.name; length = l.length; slopes = l.slopes.items; limits = l.limits.items; points = l.points }) };
+    ghost invariant = { λ l. IsLine (record {
+      name = l.name;
+      length = l.length;
+      slopes = l.slopes.items;
+      limits = l.limits.items;
+      points = l.points;
+    }) };
 }
 
 impl Line {
@@ -50,8 +62,20 @@ impl Line {
         limits: Vec<Zone>,
         points: Points,
     ) -> Line
-        requires { IsLine (record { name = name; length = length; slopes = slopes.items; limits = limits.items; points = points }) }
-        ensures { result ≡ record { name = name; length = length; slopes = slopes.items; limits = limits.items; points = points } }
+        requires { IsLine (record {
+          name = name;
+          length = length;
+          slopes = slopes.items;
+          limits = limits.items;
+          points = points;
+        }) }
+        ensures { result ≡ record {
+          name = name;
+          length = length;
+          slopes = slopes.items;
+          limits = limits.items;
+          points = points;
+        } }
     {
         Line {
             name,

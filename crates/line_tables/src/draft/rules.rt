@@ -22,7 +22,8 @@ impl Draft {
         requires { kind_of (field (fields_of row.now) 0) ≡ Some Kind.Line }
         ensures rule { IfErr result (λ rule. line_rule self.now (fields_of row.now) ≡ Some rule) }
         ensures ok { OnOk result (line_rule self.now (fields_of row.now) ≡ None) }
-        ensures length { IfOk result (λ n. line_of (fields_of row.now) ≡ Some (field (fields_of row.now) 1, n)) }
+        ensures length { IfOk result
+            (λ n. line_of (fields_of row.now) ≡ Some (field (fields_of row.now) 1, n)) }
         ensures range { IfOk result (λ n. (2 ≤ n) × (n ≤ 500000)) }
         ensures first { OnOk result (self.now.line ≡ None) }
     {
@@ -47,7 +48,8 @@ impl Draft {
     // The slope that a `gradient` record gives.
     pub(crate) fn read_slope(&self, row: &ByteRecord) -> Result<Slope, u32>
         requires { kind_of (field (fields_of row.now) 0) ≡ Some Kind.Gradient }
-        ensures rule { IfErr result (λ rule. gradient_rule self.now (fields_of row.now) ≡ Some rule) }
+        ensures rule { IfErr result
+            (λ rule. gradient_rule self.now (fields_of row.now) ≡ Some rule) }
         ensures ok { OnOk result (gradient_rule self.now (fields_of row.now) ≡ None) }
         ensures slope { IfOk result (λ s. slope_of (fields_of row.now) ≡ Some s) }
         ensures lies { IfOk result (SlopeLiesOn (last_place self.now)) }
@@ -80,7 +82,8 @@ impl Draft {
 
     // Whether a slope between these places may come next.
     fn may_climb(&self, from: u32, to: u32) -> bool
-        ensures { result ≡ (is_some self.now.line && (nat_lt from to && not (nat_lt from (slopes_end self.now)))) }
+        ensures { result ≡ (is_some self.now.line
+            && (nat_lt from to && not (nat_lt from (slopes_end self.now)))) }
     {
         self.line.is_some() && from < to && from >= self.slopes_end()
     }
@@ -123,10 +126,12 @@ impl Draft {
         requires { kind_of (field (fields_of row.now) 0) ≡ Some Kind.Point }
         ensures rule { IfErr result (λ rule. point_rule self.now (fields_of row.now) ≡ Some rule) }
         ensures ok { OnOk result (point_rule self.now (fields_of row.now) ≡ None) }
-        ensures point { IfOk result (λ at. point_of (fields_of row.now) ≡ Some (field (fields_of row.now) 2, at)) }
+        ensures point { IfOk result
+            (λ at. point_of (fields_of row.now) ≡ Some (field (fields_of row.now) 2, at)) }
         ensures lies { IfOk result (λ at. at ≤ last_place self.now) }
         ensures line { OnOk result (IsSome self.now.line) }
-        ensures fresh { OnOk result (find_point (field (fields_of row.now) 2) self.now.points ≡ None) }
+        ensures fresh { OnOk result
+            (find_point (field (fields_of row.now) 2) self.now.points ≡ None) }
     {
         if row.len() != 3 {
             return Err(2);
