@@ -122,9 +122,6 @@ IsPassed-next rows place kmh p more behind = record {
 pub IsPassed-later : (rows : List Row) (place kmh later : ℕ) → IsPassed rows place kmh → kmh ≤ later → IsPassed rows place later
 IsPassed-later rows place kmh later p h = record { on_curve = p.on_curve; passed = omega (arith, p.passed); same = λ k g. p.same k (omega arith) }
 
-pub IsPassed-start : (rows : List Row) → IsCurve rows → IsPassed rows 0 0
-IsPassed-start rows c = record { on_curve = omega (arith, c.some); passed = omega (arith, c.starts); same = λ k h. refl }
-
 -- the value at a speed before the row that follows the place
 pub value_at-passed : (rows : List Row) (place kmh : ℕ) → IsPassed rows place kmh → kmh ≤ get_or (speeds rows) (place + 1) 0
     → value_at rows kmh ≡ value_on (get_or rows place no_row, get_or rows (place + 1) no_row) kmh

@@ -36,7 +36,8 @@ impl From<AllocError> for KeyFault {
 
 /// The document that the bytes of a file are.
 pub(crate) fn read_document(alloc: Global, bytes: &[u8]) -> Result<Table, StockFault>
-    ensures { Gives (Err StockFault.Memory) (document_of bytes.now) (result_map_both table_view (λ e. e) result) }
+    ensures { Gives (Err StockFault.Memory) (document_of bytes.now)
+        (result_map_both table_view (λ e. e) result) }
 {
     match toml::table_from_slice(alloc, bytes) {
         Ok(document) => Ok(document),
@@ -83,7 +84,8 @@ pub(crate) fn curve_at(
     top: u32,
 ) -> Result<Curve, KeyFault>
     requires { values.1 ≤ 3000000 }
-    ensures value { Gives (Err KeyFault.Memory) (rows_in values.0 values.1 top (get_member key.now (table_view document.now))) result }
+    ensures value { Gives (Err KeyFault.Memory)
+        (rows_in values.0 values.1 top (get_member key.now (table_view document.now))) result }
     ensures curve { IfOk result (IsCurveTo top) }
     ensures least { IfOk result (All (λ r. values.0 ≤ r.value)) }
 {
@@ -124,7 +126,8 @@ fn pair(value: &Value) -> Option<(i64, i64)>
 
 // An array of arrays of two integers.
 fn pairs(alloc: Global, value: &Value) -> Result<Option<Vec<(i64, i64)>>, AllocError>
-    ensures { IfOk result (λ o. option_map (λ v. v.items) o ≡ option_and_then (each pair_of) (elements (view value.now))) }
+    ensures { IfOk result (λ o. option_map (λ v. v.items) o
+        ≡ option_and_then (each pair_of) (elements (view value.now))) }
 {
     let Some(values) = elements(value) else {
         return Ok(None);
@@ -159,7 +162,8 @@ fn rows(
     high: u32,
 ) -> Result<Option<Vec<Row>>, AllocError>
     requires { high ≤ 3000000 }
-    ensures value { IfOk result (λ o. option_map (λ v. v.items) o ≡ each (row_in low high) pairs.now) }
+    ensures value { IfOk result
+        (λ o. option_map (λ v. v.items) o ≡ each (row_in low high) pairs.now) }
     ensures ranges { IfOk result (λ o. IfSome o (λ v. All IsRow v.items)) }
     ensures least { IfOk result (λ o. IfSome o (λ v. All (λ r. low ≤ r.value) v.items)) }
 {

@@ -72,7 +72,8 @@ pub(crate) fn push_rows(efforts: Vec<i64>, resistance: Resistance) -> Vec<i64>
     requires few { length efforts.items ≤ 501 }
     requires least { (k : ℕ) → k < length efforts.items → pos 0 ≤ℤ row efforts.items k }
     requires most { (k : ℕ) → k < length efforts.items → row efforts.items k ≤ℤ pos 3000000 }
-    ensures { result.items ≡ map (λ k. net_push (row efforts.items k) (resistance_at resistance k)) (range_with_len 0 (length efforts.items)) }
+    ensures { result.items ≡ map (λ k. net_push (row efforts.items k) (resistance_at resistance k))
+        (range_with_len 0 (length efforts.items)) }
 {
     let mut rows = efforts;
     for k in 0..rows.len() {
@@ -85,7 +86,8 @@ pub(crate) fn push_rows(efforts: Vec<i64>, resistance: Resistance) -> Vec<i64>
 pub(crate) fn brake_rows(rates: Vec<i64>) -> Vec<i64>
     requires least { (k : ℕ) → k < length rates.items → pos 0 ≤ℤ row rates.items k }
     requires most { (k : ℕ) → k < length rates.items → row rates.items k ≤ℤ pos 3000000 }
-    ensures { result.items ≡ map (λ k. brake_loss (row rates.items k)) (range_with_len 0 (length rates.items)) }
+    ensures { result.items ≡ map (λ k. brake_loss (row rates.items k))
+        (range_with_len 0 (length rates.items)) }
 {
     let mut rows = rates;
     for k in 0..rows.len() {

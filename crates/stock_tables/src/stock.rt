@@ -34,9 +34,23 @@ impl Model for Stock {
 
     ghost Value = { StockTable };
 
-    ghost view = { λ s. record { mass = s.mass; moved_mass = s.moved_mass; length = s.length; top = s.top; push = s.push; brake = s.brake } };
+    ghost view = { λ s. record {
+      mass = s.mass;
+      moved_mass = s.moved_mass;
+      length = s.length;
+      top = s.top;
+      push = s.push;
+      brake = s.brake;
+    } };
 
-    ghost invariant = { λ s. IsStock (record { mass = s.mass; moved_mass = s.moved_mass; length = s.length; top = s.top; push = s.push; brake = s.brake }) };
+    ghost invariant = { λ s. IsStock (record {
+      mass = s.mass;
+      moved_mass = s.moved_mass;
+      length = s.length;
+      top = s.top;
+      push = s.push;
+      brake = s.brake;
+    }) };
 }
 
 // The first speed from which values break their law, in km/h.
@@ -74,7 +88,8 @@ fn push_of(
     requires effort { IsCurveTo top effort.now }
     requires resistance { IsResistance resistance }
     requires some { 1 ≤ top }
-    ensures value { Gives (Err StockFault.Memory) (table_of 5 (Drops moved_mass) (push_rows top effort.now resistance)) result }
+    ensures value { Gives (Err StockFault.Memory)
+        (table_of 5 (Drops moved_mass) (push_rows top effort.now resistance)) result }
     ensures kept { IfOk result (IsTableTo top (Drops moved_mass)) }
 {
     let efforts = effort.values_to(alloc, top)?;
@@ -87,7 +102,8 @@ fn brake_of(alloc: Global, top: u32, rates: &Curve) -> Result<Bands, StockFault>
     requires rates { IsCurveTo top rates.now }
     requires strong { All (λ r. 50 ≤ r.value) rates.now }
     requires some { 1 ≤ top }
-    ensures value { Gives (Err StockFault.Memory) (table_of 7 Climb (brake_rows top rates.now)) result }
+    ensures value { Gives (Err StockFault.Memory)
+        (table_of 7 Climb (brake_rows top rates.now)) result }
     ensures kept { IfOk result (IsTableTo top Climb) }
     ensures strong { IfOk result (IsStrong top) }
 {
