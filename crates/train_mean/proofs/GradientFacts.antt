@@ -9,12 +9,6 @@ use Rattle.line_tables.specs.declared.table.Slope.{Slope}
 use Rattle.train_mean.specs.Gradients.{gradient_at, sum_from}
 use Rattle.train_mean.specs.Windows.{AreSlopes, IsAhead}
 
--- past the end of the first slope the rest tells the gradients
-pub gradient_at-passed : (s : Slope) (rest : List Slope) (c : ℕ) → s.to ≤ c → gradient_at rest c ≡ gradient_at (s ∷ rest) c
-gradient_at-passed s rest c h =
-    let past : (nat_le s.from c && nat_lt c s.to) ≡ false = grind (arith, nat_tests, h) in
-    rw past refl
-
 -- slopes that begin after a cell don't tell its gradient
 pub gradient_at-before : (slopes : List Slope) (start cell : ℕ) → All (λ s. start ≤ s.from) slopes → cell < start → gradient_at slopes cell ≡ pos 0
 gradient_at-before [] start cell a h = refl
