@@ -1,19 +1,20 @@
 #!/usr/bin/env python3
 """Tries wrong bodies of functions, which the proofs must refuse: tests/wrong.py [CRATE ..]
 
-It is run on demand, and is no part of the merge gate. Each file of tests/wrong/ is TOML, is named as
-the crate whose bodies it makes wrong, and has tables `[[wrong]]` with
+It is run on demand, and is no part of the merge gate. Each file of tests/wrong/ is TOML, is named
+as the crate whose bodies it makes wrong, and has tables `[[wrong]]` with
 
     name    a name for the wrong body, of letters, digits and _
     why     what the wrong body would do to a user
     file    the file of the crate that it stands in, as "src/lib.rt"
     old     a text of one line that stands in that file once, or a list of such texts
-    new     the text that takes its place, or a list with one for each; each is put in after the others
+    new     the text that takes its place, or a list with one for each, put in one after the other
 
-A row with other keys is refused. Without a crate's name the files of all are tried, each on a copy of
-the crates in which its rows are the crate's must-fail edits, over the proofs that `rt check` kept. A
-row is `refused` by a contract, as it has to be; `NOT REFUSED` where the crate is still proved; and
-`BAD` where its text can't be put in or read, or where it was not a contract that refused it.
+A row with other keys is refused. Without a crate's name the files of all are tried, on a copy of
+the crates in which the rows are the must-fail edits of their crate, over the proofs that `rt check`
+kept. A row is `refused` by a contract, as it has to be; `NOT REFUSED` where the crate is still
+proved; and `BAD` where its text can't be put in or read, or where no contract refused it but a limit
+of the prover, or a proof that names what the text took away.
 """
 
 import pathlib
@@ -30,11 +31,14 @@ REFUSED = "refused, as it must be"
 
 def rows_of(crate):
     """The rows of the file of a crate, where each has the known keys."""
-    tables = tomllib.loads((TOP / "tests" / "wrong" / f"{crate}.toml").read_text())
-    for row in tables["wrong"]:
+    path = TOP / "tests" / "wrong" / f"{crate}.toml"
+    if not path.is_file():
+        sys.exit(f"{crate} has no file of wrong bodies")
+    rows = tomllib.loads(path.read_text())["wrong"]
+    for row in rows:
         if row.keys() != KEYS:
             sys.exit(f"{crate}: {row.get('name', 'a row')} has the keys {sorted(row)}")
-    return tables["wrong"]
+    return rows
 
 
 def listed(text):
@@ -75,7 +79,9 @@ def verdict(text):
     """The verdict on a row by what is said of it."""
     if text.startswith(REFUSED) and not text.startswith(f"{REFUSED} (only "):
         return "refused"
-    return "NOT REFUSED" if text.startswith("NOT REFUSED") else f"BAD: {text}"
+    if text.startswith("NOT REFUSED"):
+        return "NOT REFUSED"
+    return f"BAD: {text.removeprefix('BAD EDIT: ')}"
 
 
 def main(crates):
