@@ -124,17 +124,22 @@ mod tests {
     use super::*;
     use line_tables::read_line;
 
+    // Whether numbers from a place on begin with these.
+    fn has_at(numbers: &[i64], place: usize, wanted: &[i64]) -> bool {
+        match numbers.get(place..) {
+            Some(rest) => rest.starts_with(wanted),
+            None => false,
+        }
+    }
+
     // Whether the pulls on a train of 259,200 kg and 10 m, from a cell of a line on, begin with these.
     fn are_pulls(alloc: Global, text: &[u8], cell: usize, wanted: &[i64]) -> bool {
-        let Ok(line) = read_line(alloc, text) else {
-            return false;
-        };
-        let Ok(found) = pulls(alloc, &line, 259_200, 10) else {
-            return false;
-        };
-        match found.as_slice().get(cell..) {
-            Some(found) => found.starts_with(wanted),
-            None => false,
+        match read_line(alloc, text) {
+            Ok(line) => match pulls(alloc, &line, 259_200, 10) {
+                Ok(found) => has_at(&found, cell, wanted),
+                Err(_) => false,
+            },
+            Err(_) => false,
         }
     }
 
