@@ -1,0 +1,118 @@
+-- The forms of a command line, and what each of them asks for.
+use Rattle.std.specs.Prelude.{ℕ, Bool, List, [], codes, if◌then◌else◌, Option, Some, None, option_and_then, slice_index_or}
+use Rattle.std.specs.Str.{bytes_eq}
+use Rattle.clap.specs.Words.{App, Row, Text, first_of}
+use Rattle.unit_rules.specs.Numeral.{number_in}
+use Rattle.run_words.specs.Commands.{◌taking◌, plain_app, rows_in}
+use Rattle.run_words.specs.declared.requests.BrakesForm.{BrakesForm}
+use Rattle.run_words.specs.declared.requests.CapsForm.{CapsForm}
+use Rattle.run_words.specs.declared.requests.EnvelopeForm.{EnvelopeForm}
+use Rattle.run_words.specs.declared.requests.RiseForm.{RiseForm}
+use Rattle.run_words.specs.declared.requests.StockForm.{StockForm}
+use Rattle.run_words.specs.declared.requests.Request.{Request as Form}
+use Rattle.run_words.specs.declared.requests.Request.TheVariants as form
+
+-- a form, with the names of its files and its numbers, in the order of the words
+pub data Request : Type 0 where
+  Caps : List ℕ → ℕ → ℕ → Request
+  Stock : List ℕ → Request
+  Rise : List ℕ → List ℕ → ℕ → Request
+  Brakes : List ℕ → List ℕ → Request
+  Envelope : List ℕ → List ℕ → Request
+
+infixl 9 ◌>>=◌
+abbrev ◌>>=◌ : {A B : Type 0} → Option A → (A → Option B) → Option B
+o >>= f = option_and_then f o
+
+-- `caps LINE LENGTH TOP`: a length from 1 to 5000 m, a top speed from 1 to 500 km/h
+abbrev pub caps_app : App
+caps_app = plain_app (codes "caps") taking codes "line" taking codes "length" taking codes "top"
+
+abbrev pub caps_in : List Row → Option Request
+caps_in rows = do
+  line ← first_of (codes "line") rows
+  length ← first_of (codes "length") rows
+  speed ← first_of (codes "top") rows
+  train ← number_in 1 5000 length
+  top ← number_in 1 500 speed
+  Some (Caps line train top)
+
+-- `stock STOCK`
+abbrev pub stock_app : App
+stock_app = plain_app (codes "stock") taking codes "stock"
+
+abbrev pub stock_in : List Row → Option Request
+stock_in rows = do
+  stock ← first_of (codes "stock") rows
+  Some (Stock stock)
+
+-- `rise LINE STOCK KMH`: a speed from 0 to 500 km/h
+abbrev pub rise_app : App
+rise_app = plain_app (codes "rise") taking codes "line" taking codes "stock" taking codes "kmh"
+
+abbrev pub rise_in : List Row → Option Request
+rise_in rows = do
+  line ← first_of (codes "line") rows
+  stock ← first_of (codes "stock") rows
+  speed ← first_of (codes "kmh") rows
+  kmh ← number_in 0 500 speed
+  Some (Rise line stock kmh)
+
+-- `brakes LINE STOCK`
+abbrev pub brakes_app : App
+brakes_app = plain_app (codes "brakes") taking codes "line" taking codes "stock"
+
+abbrev pub brakes_in : List Row → Option Request
+brakes_in rows = do
+  line ← first_of (codes "line") rows
+  stock ← first_of (codes "stock") rows
+  Some (Brakes line stock)
+
+-- `envelope LINE STOCK`
+abbrev pub envelope_app : App
+envelope_app = plain_app (codes "envelope") taking codes "line" taking codes "stock"
+
+abbrev pub envelope_in : List Row → Option Request
+envelope_in rows = do
+  line ← first_of (codes "line") rows
+  stock ← first_of (codes "stock") rows
+  Some (Envelope line stock)
+
+-- the first of the words is this name
+abbrev pub asks : List Text → Text → Bool
+asks words name = bytes_eq (slice_index_or words 0 []) name
+
+-- what the words ask for, if they are a form: its name, and then what its command line takes, with
+-- each number a numeral in its range
+abbrev pub request_of : List Text → Option Request
+request_of words =
+    if asks words (codes "caps") then rows_in caps_app words >>= caps_in
+    else if asks words (codes "stock") then rows_in stock_app words >>= stock_in
+    else if asks words (codes "rise") then rows_in rise_app words >>= rise_in
+    else if asks words (codes "brakes") then rows_in brakes_app words >>= brakes_in
+    else if asks words (codes "envelope") then rows_in envelope_app words >>= envelope_in
+    else None
+
+-- what each form that was read asks for
+abbrev pub caps_view : CapsForm → Request
+caps_view f = Caps f.line.now f.train f.top
+
+abbrev pub stock_view : StockForm → Request
+stock_view f = Stock f.stock.now
+
+abbrev pub rise_view : RiseForm → Request
+rise_view f = Rise f.line.now f.stock.now f.kmh
+
+abbrev pub brakes_view : BrakesForm → Request
+brakes_view f = Brakes f.line.now f.stock.now
+
+abbrev pub envelope_view : EnvelopeForm → Request
+envelope_view f = Envelope f.line.now f.stock.now
+
+-- what a request that was read asks for
+abbrev pub view : Form → Request
+view (form.Caps f) = caps_view f
+view (form.Stock f) = stock_view f
+view (form.Rise f) = rise_view f
+view (form.Brakes f) = brakes_view f
+view (form.Envelope f) = envelope_view f

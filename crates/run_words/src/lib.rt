@@ -1,0 +1,183 @@
+//! The words of a command line, read by `clap` as one of the forms that it may have.
+#![tactic(auto)]
+
+ghost use Rattle.std.specs.Prelude.{◌≡◌, ◌<◌, [], IfOk, length, map, option_and_then, option_map};
+ghost use Rattle.std.specs.Prelude.{slice_index_or, string_bytes};
+ghost use Rattle.std.specs.Str.{bytes_eq};
+ghost use Rattle.clap.specs.Words.{app_of, found_of, rows_of};
+ghost use Rattle.run_words.specs.Commands.{rows_in};
+ghost use Rattle.run_words.specs.Requests.{asks, request_of, view};
+ghost use Rattle.run_words.specs.Requests.{brakes_app, caps_app, envelope_app, rise_app, stock_app};
+ghost use Rattle.run_words.specs.Requests.{brakes_in, caps_in, envelope_in, rise_in, stock_in};
+
+mod command;
+mod requests;
+
+use crate::command::{matches_by, plain_command, value_of, with_value};
+use clap::{ArgMatches, Command};
+pub use requests::{BrakesForm, CapsForm, EnvelopeForm, Request, RiseForm, StockForm};
+use std::alloc::Global;
+use unit_rules::{Memory, number_in};
+
+/// What the words ask for, or None where they are none of the forms. The first word is the name
+/// of the form's command.
+pub fn read_request<'a>(alloc: Global, words: &'a [String]) -> Result<Option<Request<'a>>, Memory>
+    ensures { IfOk result (λ r. option_map view r ≡ request_of (map string_bytes words.entry.now)) }
+{
+    if asks(words, "caps") {
+        read_caps(alloc, words)
+    } else if asks(words, "stock") {
+        read_stock(alloc, words)
+    } else if asks(words, "rise") {
+        read_rise(alloc, words)
+    } else if asks(words, "brakes") {
+        read_brakes(alloc, words)
+    } else if asks(words, "envelope") {
+        read_envelope(alloc, words)
+    } else {
+        Ok(None)
+    }
+}
+
+// Whether the first of the words is this name.
+fn asks(words: &[String], name: &str) -> bool
+    requires { 0 < length name.now }
+    ensures { result ≡ asks (map string_bytes words.now) name.now }
+{
+    words.len() > 0 && words[0].as_str() == name
+}
+
+fn read_caps<'a>(alloc: Global, words: &'a [String]) -> Result<Option<Request<'a>>, Memory>
+    ensures { IfOk result (λ r. option_map view r
+        ≡ option_and_then caps_in (rows_in caps_app (map string_bytes words.entry.now))) }
+{
+    match matches_by(caps_command(alloc)?, words)? {
+        None => Ok(None),
+        Some(matches) => Ok(caps_of(&matches)),
+    }
+}
+
+fn caps_command<'a>(alloc: Global) -> Result<Command<'a>, Memory>
+    ensures { IfOk result (λ c. app_of c ≡ caps_app) }
+{
+    let command = plain_command(alloc, "caps");
+    let command = with_value(alloc, command, "line")?;
+    let command = with_value(alloc, command, "length")?;
+    with_value(alloc, command, "top")
+}
+
+fn caps_of<'a>(matches: &ArgMatches<'a>) -> Option<Request<'a>>
+    ensures { option_map view result ≡ caps_in (rows_of (found_of matches.now)) }
+{
+    let line = value_of(matches, "line")?;
+    let length = value_of(matches, "length")?;
+    let speed = value_of(matches, "top")?;
+    let train = number_in(1, 5000, length.as_bytes())?;
+    let top = number_in(1, 500, speed.as_bytes())?;
+    Some(Request::Caps(CapsForm { line, train, top }))
+}
+
+fn read_stock<'a>(alloc: Global, words: &'a [String]) -> Result<Option<Request<'a>>, Memory>
+    ensures { IfOk result (λ r. option_map view r
+        ≡ option_and_then stock_in (rows_in stock_app (map string_bytes words.entry.now))) }
+{
+    match matches_by(stock_command(alloc)?, words)? {
+        None => Ok(None),
+        Some(matches) => Ok(stock_of(&matches)),
+    }
+}
+
+fn stock_command<'a>(alloc: Global) -> Result<Command<'a>, Memory>
+    ensures { IfOk result (λ c. app_of c ≡ stock_app) }
+{
+    let command = plain_command(alloc, "stock");
+    with_value(alloc, command, "stock")
+}
+
+fn stock_of<'a>(matches: &ArgMatches<'a>) -> Option<Request<'a>>
+    ensures { option_map view result ≡ stock_in (rows_of (found_of matches.now)) }
+{
+    let stock = value_of(matches, "stock")?;
+    Some(Request::Stock(StockForm { stock }))
+}
+
+fn read_rise<'a>(alloc: Global, words: &'a [String]) -> Result<Option<Request<'a>>, Memory>
+    ensures { IfOk result (λ r. option_map view r
+        ≡ option_and_then rise_in (rows_in rise_app (map string_bytes words.entry.now))) }
+{
+    match matches_by(rise_command(alloc)?, words)? {
+        None => Ok(None),
+        Some(matches) => Ok(rise_of(&matches)),
+    }
+}
+
+fn rise_command<'a>(alloc: Global) -> Result<Command<'a>, Memory>
+    ensures { IfOk result (λ c. app_of c ≡ rise_app) }
+{
+    let command = plain_command(alloc, "rise");
+    let command = with_value(alloc, command, "line")?;
+    let command = with_value(alloc, command, "stock")?;
+    with_value(alloc, command, "kmh")
+}
+
+fn rise_of<'a>(matches: &ArgMatches<'a>) -> Option<Request<'a>>
+    ensures { option_map view result ≡ rise_in (rows_of (found_of matches.now)) }
+{
+    let line = value_of(matches, "line")?;
+    let stock = value_of(matches, "stock")?;
+    let speed = value_of(matches, "kmh")?;
+    let kmh = number_in(0, 500, speed.as_bytes())?;
+    Some(Request::Rise(RiseForm { line, stock, kmh }))
+}
+
+fn read_brakes<'a>(alloc: Global, words: &'a [String]) -> Result<Option<Request<'a>>, Memory>
+    ensures { IfOk result (λ r. option_map view r
+        ≡ option_and_then brakes_in (rows_in brakes_app (map string_bytes words.entry.now))) }
+{
+    match matches_by(brakes_command(alloc)?, words)? {
+        None => Ok(None),
+        Some(matches) => Ok(brakes_of(&matches)),
+    }
+}
+
+fn brakes_command<'a>(alloc: Global) -> Result<Command<'a>, Memory>
+    ensures { IfOk result (λ c. app_of c ≡ brakes_app) }
+{
+    let command = plain_command(alloc, "brakes");
+    let command = with_value(alloc, command, "line")?;
+    with_value(alloc, command, "stock")
+}
+
+fn brakes_of<'a>(matches: &ArgMatches<'a>) -> Option<Request<'a>>
+    ensures { option_map view result ≡ brakes_in (rows_of (found_of matches.now)) }
+{
+    let line = value_of(matches, "line")?;
+    let stock = value_of(matches, "stock")?;
+    Some(Request::Brakes(BrakesForm { line, stock }))
+}
+
+fn read_envelope<'a>(alloc: Global, words: &'a [String]) -> Result<Option<Request<'a>>, Memory>
+    ensures { IfOk result (λ r. option_map view r
+        ≡ option_and_then envelope_in (rows_in envelope_app (map string_bytes words.entry.now))) }
+{
+    match matches_by(envelope_command(alloc)?, words)? {
+        None => Ok(None),
+        Some(matches) => Ok(envelope_of(&matches)),
+    }
+}
+
+fn envelope_command<'a>(alloc: Global) -> Result<Command<'a>, Memory>
+    ensures { IfOk result (λ c. app_of c ≡ envelope_app) }
+{
+    let command = plain_command(alloc, "envelope");
+    let command = with_value(alloc, command, "line")?;
+    with_value(alloc, command, "stock")
+}
+
+fn envelope_of<'a>(matches: &ArgMatches<'a>) -> Option<Request<'a>>
+    ensures { option_map view result ≡ envelope_in (rows_of (found_of matches.now)) }
+{
+    let line = value_of(matches, "line")?;
+    let stock = value_of(matches, "stock")?;
+    Some(Request::Envelope(EnvelopeForm { line, stock }))
+}

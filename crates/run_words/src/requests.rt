@@ -1,0 +1,70 @@
+//! The forms of a command line, with the names of their files and their numbers.
+
+ghost use Rattle.std.specs.Prelude.{◌≤◌};
+
+/// `caps LINE LENGTH TOP`: the caps of a line for a train of that length and top speed.
+#[derive(Drop)]
+pub struct CapsForm<'a> {
+    /// The name of the line's file.
+    pub line: &'a str,
+    /// The train's length in metres, from 1 to 5000.
+    pub train: u32,
+    /// The train's top speed in km/h, from 1 to 500.
+    pub top: u32,
+    pub ghost train_least: { 1 ≤ train },
+    pub ghost train_most: { train ≤ 5000 },
+    pub ghost top_least: { 1 ≤ top },
+    pub ghost top_most: { top ≤ 500 },
+}
+
+/// `stock STOCK`: the tables of a train.
+#[derive(Drop)]
+pub struct StockForm<'a> {
+    /// The name of the train's file.
+    pub stock: &'a str,
+}
+
+/// `rise LINE STOCK KMH`: the step rule of a train on a line, at each cell from that speed.
+#[derive(Drop)]
+pub struct RiseForm<'a> {
+    /// The name of the line's file.
+    pub line: &'a str,
+    /// The name of the train's file.
+    pub stock: &'a str,
+    /// The speed in km/h, from 0 to 500.
+    pub kmh: u32,
+    pub ghost kmh_most: { kmh ≤ 500 },
+}
+
+/// `brakes LINE STOCK`: the braking list of a train on a line.
+#[derive(Drop)]
+pub struct BrakesForm<'a> {
+    /// The name of the line's file.
+    pub line: &'a str,
+    /// The name of the train's file.
+    pub stock: &'a str,
+}
+
+/// `envelope LINE STOCK`: the fastest run of a train over a line.
+#[derive(Drop)]
+pub struct EnvelopeForm<'a> {
+    /// The name of the line's file.
+    pub line: &'a str,
+    /// The name of the train's file.
+    pub stock: &'a str,
+}
+
+/// What the words of a command line ask for.
+#[derive(Drop)]
+pub enum Request<'a> {
+    /// The caps of a line.
+    Caps(CapsForm<'a>),
+    /// The tables of a train.
+    Stock(StockForm<'a>),
+    /// The step rule of a train on a line.
+    Rise(RiseForm<'a>),
+    /// The braking list of a train on a line.
+    Brakes(BrakesForm<'a>),
+    /// The fastest run of a train over a line.
+    Envelope(EnvelopeForm<'a>),
+}
