@@ -18,9 +18,9 @@ abbrev pub plain_app : Text → App
 plain_app name = on_top (λ s. record s { disable_help_flag = true; disable_version_flag = true }) (new_app name)
 
 infixl 10 ◌taking◌
--- the command with one more value, at the next place
-abbrev pub ◌taking◌ : App → Text → App
-app taking id = with_rule app (positional id)
+-- the command with one more argument
+abbrev pub ◌taking◌ : App → Rule → App
+app taking rule = with_rule app rule
 
 -- the values of the words, the first of which is the command's name, if the command takes them
 abbrev pub rows_in : App → List Text → Option (List Row)

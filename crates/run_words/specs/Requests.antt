@@ -3,7 +3,7 @@ use Rattle.std.specs.Prelude.{ℕ, Bool, List, [], codes, if◌then◌else◌, O
 use Rattle.std.specs.Str.{bytes_eq}
 use Rattle.clap.specs.Words.{App, Row, Text, first_of}
 use Rattle.unit_rules.specs.Numeral.{number_in}
-use Rattle.run_words.specs.Commands.{◌taking◌, plain_app, rows_in}
+use Rattle.run_words.specs.Commands.{◌taking◌, plain_app, positional, rows_in}
 use Rattle.run_words.specs.declared.requests.BrakesForm.{BrakesForm}
 use Rattle.run_words.specs.declared.requests.CapsForm.{CapsForm}
 use Rattle.run_words.specs.declared.requests.EnvelopeForm.{EnvelopeForm}
@@ -26,7 +26,9 @@ o >>= f = option_and_then f o
 
 -- `caps LINE LENGTH TOP`: a length from 1 to 5000 m, a top speed from 1 to 500 km/h
 abbrev pub caps_app : App
-caps_app = plain_app (codes "caps") taking codes "line" taking codes "length" taking codes "top"
+caps_app =
+    plain_app (codes "caps")
+    taking positional (codes "line") taking positional (codes "length") taking positional (codes "top")
 
 abbrev pub caps_in : List Row → Option Request
 caps_in rows = do
@@ -39,7 +41,7 @@ caps_in rows = do
 
 -- `stock STOCK`
 abbrev pub stock_app : App
-stock_app = plain_app (codes "stock") taking codes "stock"
+stock_app = plain_app (codes "stock") taking positional (codes "stock")
 
 abbrev pub stock_in : List Row → Option Request
 stock_in rows = do
@@ -48,7 +50,9 @@ stock_in rows = do
 
 -- `rise LINE STOCK KMH`: a speed from 0 to 500 km/h
 abbrev pub rise_app : App
-rise_app = plain_app (codes "rise") taking codes "line" taking codes "stock" taking codes "kmh"
+rise_app =
+    plain_app (codes "rise")
+    taking positional (codes "line") taking positional (codes "stock") taking positional (codes "kmh")
 
 abbrev pub rise_in : List Row → Option Request
 rise_in rows = do
@@ -60,7 +64,7 @@ rise_in rows = do
 
 -- `brakes LINE STOCK`
 abbrev pub brakes_app : App
-brakes_app = plain_app (codes "brakes") taking codes "line" taking codes "stock"
+brakes_app = plain_app (codes "brakes") taking positional (codes "line") taking positional (codes "stock")
 
 abbrev pub brakes_in : List Row → Option Request
 brakes_in rows = do
@@ -70,7 +74,7 @@ brakes_in rows = do
 
 -- `envelope LINE STOCK`
 abbrev pub envelope_app : App
-envelope_app = plain_app (codes "envelope") taking codes "line" taking codes "stock"
+envelope_app = plain_app (codes "envelope") taking positional (codes "line") taking positional (codes "stock")
 
 abbrev pub envelope_in : List Row → Option Request
 envelope_in rows = do

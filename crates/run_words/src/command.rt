@@ -3,7 +3,7 @@
 
 ghost use Rattle.std.specs.Prelude.{◌≡◌, IfOk, false, map, option_map, string_bytes, true};
 ghost use Rattle.clap.specs.Words.{app_of, first_of, found_of, is_simple, is_simple_and_free};
-ghost use Rattle.clap.specs.Words.{fault_of, kind_of, matches_of, FailsBy, rows_of, rule_of, with_rule};
+ghost use Rattle.clap.specs.Words.{fault_of, kind_of, matches_of, FailsBy, rows_of, rule_of};
 ghost use Rattle.run_words.specs.Commands.{◌taking◌, option_named, plain_app, positional, rows_in};
 
 use clap::error::ErrorKind;
@@ -26,7 +26,7 @@ pub(crate) fn with_value<'a>(
     command: Command<'a>,
     id: &'a str,
 ) -> Result<Command<'a>, Memory>
-    ensures { IfOk result (λ c. app_of c ≡ (app_of command.entry taking id.entry.now)) }
+    ensures { IfOk result (λ c. app_of c ≡ (app_of command.entry taking positional id.entry.now)) }
 {
     with_argument(command, value_at(alloc, id))
 }
@@ -39,7 +39,7 @@ pub(crate) fn with_option<'a>(
     required: bool,
 ) -> Result<Command<'a>, Memory>
     ensures { IfOk result (λ c. app_of c
-        ≡ with_rule (app_of command.entry) (option_named required id.entry.now)) }
+        ≡ (app_of command.entry taking option_named required id.entry.now)) }
 {
     with_argument(command, option_at(alloc, id, required))
 }
@@ -47,7 +47,7 @@ pub(crate) fn with_option<'a>(
 // The command with one more argument.
 fn with_argument<'a>(command: Command<'a>, argument: Arg<'a>) -> Result<Command<'a>, Memory>
     requires { argument.global ≡ false }
-    ensures { IfOk result (λ c. app_of c ≡ with_rule (app_of command.entry) (rule_of argument.entry)) }
+    ensures { IfOk result (λ c. app_of c ≡ (app_of command.entry taking rule_of argument.entry)) }
 {
     command.arg(argument).map_err(|_| Memory)
 }

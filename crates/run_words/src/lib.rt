@@ -181,3 +181,6 @@ fn envelope_of<'a>(matches: &ArgMatches<'a>) -> Option<Request<'a>>
     let stock = value_of(matches, "stock")?;
     Some(Request::Envelope(EnvelopeForm { line, stock }))
 }
+
+#[cfg(test)]
+mod tests;
