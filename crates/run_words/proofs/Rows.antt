@@ -8,7 +8,8 @@ use Rattle.run_words.specs.PlanWords.{plan_app}
 use Rattle.run_words.specs.Requests.{request_of}
 use Rattle.run_words.specs.Requests.Request.{Caps, Stock, Rise, Brakes, Envelope}
 
-caps_words : request_of (codes "caps" ∷ codes "l" ∷ codes "5000" ∷ codes "500" ∷ []) ≡ Some (Caps (codes "l") 5000 500)
+caps_words : request_of (codes "caps" ∷ codes "l" ∷ codes "5000" ∷ codes "500" ∷ [])
+    ≡ Some (Caps (codes "l") 5000 500)
 unfolding clap_on_literals whole_of
 caps_words = refl
 
@@ -16,45 +17,50 @@ stock_words : request_of (codes "stock" ∷ codes "s" ∷ []) ≡ Some (Stock (c
 unfolding clap_on_literals
 stock_words = refl
 
-rise_words : request_of (codes "rise" ∷ codes "l" ∷ codes "s" ∷ codes "0" ∷ []) ≡ Some (Rise (codes "l") (codes "s") 0)
+rise_words : request_of (codes "rise" ∷ codes "l" ∷ codes "s" ∷ codes "0" ∷ [])
+    ≡ Some (Rise (codes "l") (codes "s") 0)
 unfolding clap_on_literals whole_of
 rise_words = refl
 
-brakes_words : request_of (codes "brakes" ∷ codes "l" ∷ codes "s" ∷ []) ≡ Some (Brakes (codes "l") (codes "s"))
+brakes_words : request_of (codes "brakes" ∷ codes "l" ∷ codes "s" ∷ [])
+    ≡ Some (Brakes (codes "l") (codes "s"))
 unfolding clap_on_literals
 brakes_words = refl
 
-envelope_words : request_of (codes "envelope" ∷ codes "l" ∷ codes "s" ∷ []) ≡ Some (Envelope (codes "l") (codes "s"))
+envelope_words : request_of (codes "envelope" ∷ codes "l" ∷ codes "s" ∷ [])
+    ≡ Some (Envelope (codes "l") (codes "s"))
 unfolding clap_on_literals
 envelope_words = refl
 
--- behind `--` a word may begin with a dash, and a dash alone is a value anywhere
-behind_dashes : request_of (codes "brakes" ∷ codes "--" ∷ codes "-l" ∷ codes "s" ∷ []) ≡ Some (Brakes (codes "-l") (codes "s"))
+-- a word that begins with a dash stands behind `--`, but for a dash alone
+dash_behind_dashes : request_of (codes "brakes" ∷ codes "--" ∷ codes "-l" ∷ codes "s" ∷ [])
+    ≡ Some (Brakes (codes "-l") (codes "s"))
 unfolding clap_on_literals
-behind_dashes = refl
+dash_behind_dashes = refl
 
-one_dash : request_of (codes "brakes" ∷ codes "-" ∷ codes "s" ∷ []) ≡ Some (Brakes (codes "-") (codes "s"))
+dash_in_front : request_of (codes "brakes" ∷ codes "-l" ∷ codes "s" ∷ []) ≡ None
 unfolding clap_on_literals
-one_dash = refl
+dash_in_front = refl
 
-dashed_word : request_of (codes "brakes" ∷ codes "-l" ∷ codes "s" ∷ []) ≡ None
+dash_alone : request_of (codes "brakes" ∷ codes "-" ∷ codes "s" ∷ []) ≡ Some (Brakes (codes "-") (codes "s"))
 unfolding clap_on_literals
-dashed_word = refl
+dash_alone = refl
 
 no_help : request_of (codes "brakes" ∷ codes "--help" ∷ []) ≡ None
 unfolding clap_on_literals
 no_help = refl
 
-help_alone : request_of (codes "--help" ∷ []) ≡ None
-help_alone = refl
+no_help_alone : request_of (codes "--help" ∷ []) ≡ None
+no_help_alone = refl
 
-one_too_many : request_of (codes "envelope" ∷ codes "two.csv" ∷ codes "toy.toml" ∷ codes "none.csv" ∷ []) ≡ None
+word_too_many : request_of (codes "envelope" ∷ codes "two.csv" ∷ codes "toy.toml" ∷ codes "none.csv" ∷ [])
+    ≡ None
 unfolding clap_on_literals
-one_too_many = refl
+word_too_many = refl
 
-one_too_few : request_of (codes "caps" ∷ codes "l" ∷ codes "50" ∷ []) ≡ None
+word_too_few : request_of (codes "caps" ∷ codes "l" ∷ codes "50" ∷ []) ≡ None
 unfolding clap_on_literals
-one_too_few = refl
+word_too_few = refl
 
 zero_in_front : request_of (codes "caps" ∷ codes "l" ∷ codes "050" ∷ codes "60" ∷ []) ≡ None
 unfolding clap_on_literals whole_of
@@ -73,14 +79,17 @@ unknown_command = refl
 no_words : request_of [] ≡ None
 no_words = refl
 
--- an option stands anywhere, its value in its own word or the next, which may then not begin with a dash
+-- an option stands anywhere; its value is the next word or stands behind `=`, and only there may it
+-- begin with a dash
 option_in_front : option_map (first_of (codes "print")) (rows_in plan_app
-    (codes "plan" ∷ codes "--print=cert" ∷ codes "l" ∷ codes "s" ∷ codes "p" ∷ [])) ≡ Some (Some (codes "cert"))
+    (codes "plan" ∷ codes "--print=cert" ∷ codes "l" ∷ codes "s" ∷ codes "p" ∷ []))
+    ≡ Some (Some (codes "cert"))
 unfolding clap_on_literals
 option_in_front = refl
 
 option_behind : option_map (first_of (codes "edits")) (rows_in plan_app
-    (codes "plan" ∷ codes "l" ∷ codes "s" ∷ codes "p" ∷ codes "--edits=-x" ∷ codes "--print" ∷ codes "cert" ∷ []))
+    (codes "plan" ∷ codes "l" ∷ codes "s" ∷ codes "p" ∷ codes "--edits=-x"
+    ∷ codes "--print" ∷ codes "cert" ∷ []))
     ≡ Some (Some (codes "-x"))
 unfolding clap_on_literals
 option_behind = refl
@@ -90,10 +99,11 @@ option_twice : rows_in plan_app (codes "plan" ∷ codes "l" ∷ codes "s" ∷ co
 unfolding clap_on_literals
 option_twice = refl
 
-option_missing : rows_in plan_app (codes "plan" ∷ codes "l" ∷ codes "s" ∷ codes "p" ∷ codes "--edits" ∷ codes "e" ∷ []) ≡ None
+option_missing : rows_in plan_app (codes "plan" ∷ codes "l" ∷ codes "s" ∷ codes "p" ∷ []) ≡ None
 unfolding clap_on_literals
 option_missing = refl
 
-value_missing : rows_in plan_app (codes "plan" ∷ codes "l" ∷ codes "s" ∷ codes "p" ∷ codes "--print" ∷ []) ≡ None
+value_missing : rows_in plan_app
+    (codes "plan" ∷ codes "l" ∷ codes "s" ∷ codes "p" ∷ codes "--print" ∷ []) ≡ None
 unfolding clap_on_literals
 value_missing = refl

@@ -1,9 +1,9 @@
 -- The forms of a command line, and what each of them asks for.
-use Rattle.std.specs.Prelude.{ℕ, Bool, List, [], codes, if◌then◌else◌, Option, Some, None, option_and_then, slice_index_or}
+use Rattle.std.specs.Prelude.{ℕ, Bool, false, List, [], ◌∷◌, Option, Some, None, option_and_then}
+use Rattle.std.specs.Prelude.{codes, if◌then◌else◌}
 use Rattle.std.specs.Str.{bytes_eq}
 use Rattle.clap.specs.Words.{App, Row, Text, first_of}
-use Rattle.unit_rules.specs.Numeral.{number_in}
-use Rattle.run_words.specs.Commands.{◌taking◌, plain_app, positional, rows_in}
+use Rattle.run_words.specs.Commands.{◌taking◌, number_of, plain_app, positional, rows_in}
 use Rattle.run_words.specs.declared.requests.BrakesForm.{BrakesForm}
 use Rattle.run_words.specs.declared.requests.CapsForm.{CapsForm}
 use Rattle.run_words.specs.declared.requests.EnvelopeForm.{EnvelopeForm}
@@ -12,7 +12,7 @@ use Rattle.run_words.specs.declared.requests.StockForm.{StockForm}
 use Rattle.run_words.specs.declared.requests.Request.{Request as Form}
 use Rattle.run_words.specs.declared.requests.Request.TheVariants as form
 
--- a form, with the names of its files and its numbers, in the order of the words
+-- a form with the names of its files and its numbers, in the order of the words
 pub data Request : Type 0 where
   Caps : List ℕ → ℕ → ℕ → Request
   Stock : List ℕ → Request
@@ -33,11 +33,9 @@ caps_app =
 abbrev pub caps_in : List Row → Option Request
 caps_in rows = do
   line ← first_of (codes "line") rows
-  length ← first_of (codes "length") rows
-  speed ← first_of (codes "top") rows
-  train ← number_in 1 5000 length
-  top ← number_in 1 500 speed
-  Some (Caps line train top)
+  length ← number_of 1 5000 (codes "length") rows
+  top ← number_of 1 500 (codes "top") rows
+  Some (Caps line length top)
 
 -- `stock STOCK`
 abbrev pub stock_app : App
@@ -58,8 +56,7 @@ abbrev pub rise_in : List Row → Option Request
 rise_in rows = do
   line ← first_of (codes "line") rows
   stock ← first_of (codes "stock") rows
-  speed ← first_of (codes "kmh") rows
-  kmh ← number_in 0 500 speed
+  kmh ← number_of 0 500 (codes "kmh") rows
   Some (Rise line stock kmh)
 
 -- `brakes LINE STOCK`
@@ -84,10 +81,11 @@ envelope_in rows = do
 
 -- the first of the words is this name
 abbrev pub asks : List Text → Text → Bool
-asks words name = bytes_eq (slice_index_or words 0 []) name
+asks [] name = false
+asks (word ∷ words) name = bytes_eq word name
 
--- what the words ask for, if they are a form: its name, and then what its command line takes, with
--- each number a numeral in its range
+-- what the words ask for, if they are a form: a form's name, and then what its command line takes,
+-- with each number in its range
 abbrev pub request_of : List Text → Option Request
 request_of words =
     if asks words (codes "caps") then rows_in caps_app words >>= caps_in

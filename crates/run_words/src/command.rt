@@ -1,15 +1,17 @@
 //! Simple commands of `clap`: values by their places and options of one value, with no help, no
 //! version and no subcommands.
 
-ghost use Rattle.std.specs.Prelude.{◌≡◌, IfOk, false, map, option_map, string_bytes, true};
-ghost use Rattle.clap.specs.Words.{app_of, first_of, found_of, is_simple, is_simple_and_free};
+ghost use Rattle.std.specs.Prelude.{◌≡◌, ◌≤◌, IfOk, IfSome, false, map, option_map, string_bytes};
+ghost use Rattle.std.specs.Prelude.{true};
+ghost use Rattle.clap.specs.Words.{app_of, first_of, found_of, is_simple_and_free};
 ghost use Rattle.clap.specs.Words.{fault_of, kind_of, matches_of, FailsBy, rows_of, rule_of};
-ghost use Rattle.run_words.specs.Commands.{◌taking◌, option_named, plain_app, positional, rows_in};
+ghost use Rattle.run_words.specs.Commands.{◌taking◌, number_of, option_named, plain_app};
+ghost use Rattle.run_words.specs.Commands.{positional, rows_in};
 
 use clap::error::ErrorKind;
 use clap::{Arg, ArgAction, ArgMatches, Command};
 use std::alloc::Global;
-use unit_rules::Memory;
+use unit_rules::{Memory, number_in};
 
 // The command of this name without values and options.
 pub(crate) fn plain_command<'a>(alloc: Global, name: &'a str) -> Command<'a>
@@ -71,14 +73,13 @@ fn option_at<'a>(alloc: Global, id: &'a str, required: bool) -> Arg<'a>
         .action(ArgAction::Set)
 }
 
-// What the command takes of the words, the first of which is its name, or None where it doesn't
-// take them.
+// What the command reads of the words, the first of which stands for its name, or None where it
+// doesn't take them.
 pub(crate) fn matches_by<'a>(
     command: Command<'a>,
     words: &'a [String],
 ) -> Result<Option<ArgMatches<'a>>, Memory>
-    requires simple { is_simple (app_of command) ≡ true }
-    requires free { is_simple_and_free (app_of command) ≡ true }
+    requires { is_simple_and_free (app_of command) ≡ true }
     ensures { IfOk result (λ o. option_map (λ m. rows_of (found_of m)) o
         ≡ rows_in (app_of command.entry) (map string_bytes words.entry.now)) }
 {
@@ -94,9 +95,17 @@ pub(crate) fn matches_by<'a>(
     }
 }
 
-// The value of a value's place or of an option.
+// The value of an argument.
 pub(crate) fn value_of<'a>(matches: &ArgMatches<'a>, id: &str) -> Option<&'a str>
     ensures { option_map (λ s. s.now) result ≡ first_of id.now (rows_of (found_of matches.now)) }
 {
     matches.get_str(id)
+}
+
+// The number from `low` to `high` that an argument's value is the numeral of.
+pub(crate) fn number_of(matches: &ArgMatches, id: &str, low: u32, high: u32) -> Option<u32>
+    ensures value { result ≡ number_of low high id.now (rows_of (found_of matches.now)) }
+    ensures bounds { IfSome result (λ n. (low ≤ n) × (n ≤ high)) }
+{
+    number_in(low, high, value_of(matches, id)?.as_bytes())
 }

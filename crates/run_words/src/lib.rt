@@ -1,9 +1,7 @@
 //! The words of a command line, read by `clap` as one of the forms that it may have.
 #![tactic(auto)]
 
-ghost use Rattle.std.specs.Prelude.{◌≡◌, ◌<◌, [], IfOk, length, map, option_and_then, option_map};
-ghost use Rattle.std.specs.Prelude.{slice_index_or, string_bytes};
-ghost use Rattle.std.specs.Str.{bytes_eq};
+ghost use Rattle.std.specs.Prelude.{◌≡◌, IfOk, map, option_and_then, option_map, string_bytes};
 ghost use Rattle.clap.specs.Words.{app_of, found_of, rows_of};
 ghost use Rattle.run_words.specs.Commands.{rows_in};
 ghost use Rattle.run_words.specs.Requests.{asks, request_of, view};
@@ -13,14 +11,21 @@ ghost use Rattle.run_words.specs.Requests.{brakes_in, caps_in, envelope_in, rise
 mod command;
 mod requests;
 
-use crate::command::{matches_by, plain_command, value_of, with_value};
+use crate::command::{matches_by, number_of, plain_command, value_of, with_value};
 use clap::{ArgMatches, Command};
 pub use requests::{BrakesForm, CapsForm, EnvelopeForm, Request, RiseForm, StockForm};
 use std::alloc::Global;
-use unit_rules::{Memory, number_in};
+use unit_rules::Memory;
 
-/// What the words ask for, or None where they are none of the forms. The first word is the name
-/// of the form's command.
+/// What the words ask for, or None where they are none of the forms:
+/// - `caps LINE LENGTH TOP`, with a length from 1 to 5000 m and a top speed from 1 to 500 km/h,
+/// - `stock STOCK`,
+/// - `rise LINE STOCK KMH`, with a speed from 0 to 500 km/h,
+/// - `brakes LINE STOCK`,
+/// - `envelope LINE STOCK`.
+///
+/// A number has no sign, no space and no zero in front. A word that begins with a dash stands behind
+/// a word `--`, but for a dash alone.
 pub fn read_request<'a>(alloc: Global, words: &'a [String]) -> Result<Option<Request<'a>>, Memory>
     ensures { IfOk result (λ r. option_map view r ≡ request_of (map string_bytes words.entry.now)) }
 {
@@ -41,12 +46,12 @@ pub fn read_request<'a>(alloc: Global, words: &'a [String]) -> Result<Option<Req
 
 // Whether the first of the words is this name.
 fn asks(words: &[String], name: &str) -> bool
-    requires { 0 < length name.now }
     ensures { result ≡ asks (map string_bytes words.now) name.now }
 {
-    words.len() > 0 && words[0].as_str() == name
+    words.first().is_some_and(|word| word.as_str() == name)
 }
 
+// Reads `caps LINE LENGTH TOP`.
 fn read_caps<'a>(alloc: Global, words: &'a [String]) -> Result<Option<Request<'a>>, Memory>
     ensures { IfOk result (λ r. option_map view r
         ≡ option_and_then caps_in (rows_in caps_app (map string_bytes words.entry.now))) }
@@ -70,13 +75,12 @@ fn caps_of<'a>(matches: &ArgMatches<'a>) -> Option<Request<'a>>
     ensures { option_map view result ≡ caps_in (rows_of (found_of matches.now)) }
 {
     let line = value_of(matches, "line")?;
-    let length = value_of(matches, "length")?;
-    let speed = value_of(matches, "top")?;
-    let train = number_in(1, 5000, length.as_bytes())?;
-    let top = number_in(1, 500, speed.as_bytes())?;
+    let train = number_of(matches, "length", 1, 5000)?;
+    let top = number_of(matches, "top", 1, 500)?;
     Some(Request::Caps(CapsForm { line, train, top }))
 }
 
+// Reads `stock STOCK`.
 fn read_stock<'a>(alloc: Global, words: &'a [String]) -> Result<Option<Request<'a>>, Memory>
     ensures { IfOk result (λ r. option_map view r
         ≡ option_and_then stock_in (rows_in stock_app (map string_bytes words.entry.now))) }
@@ -101,6 +105,7 @@ fn stock_of<'a>(matches: &ArgMatches<'a>) -> Option<Request<'a>>
     Some(Request::Stock(StockForm { stock }))
 }
 
+// Reads `rise LINE STOCK KMH`.
 fn read_rise<'a>(alloc: Global, words: &'a [String]) -> Result<Option<Request<'a>>, Memory>
     ensures { IfOk result (λ r. option_map view r
         ≡ option_and_then rise_in (rows_in rise_app (map string_bytes words.entry.now))) }
@@ -125,11 +130,11 @@ fn rise_of<'a>(matches: &ArgMatches<'a>) -> Option<Request<'a>>
 {
     let line = value_of(matches, "line")?;
     let stock = value_of(matches, "stock")?;
-    let speed = value_of(matches, "kmh")?;
-    let kmh = number_in(0, 500, speed.as_bytes())?;
+    let kmh = number_of(matches, "kmh", 0, 500)?;
     Some(Request::Rise(RiseForm { line, stock, kmh }))
 }
 
+// Reads `brakes LINE STOCK`.
 fn read_brakes<'a>(alloc: Global, words: &'a [String]) -> Result<Option<Request<'a>>, Memory>
     ensures { IfOk result (λ r. option_map view r
         ≡ option_and_then brakes_in (rows_in brakes_app (map string_bytes words.entry.now))) }
@@ -156,6 +161,7 @@ fn brakes_of<'a>(matches: &ArgMatches<'a>) -> Option<Request<'a>>
     Some(Request::Brakes(BrakesForm { line, stock }))
 }
 
+// Reads `envelope LINE STOCK`.
 fn read_envelope<'a>(alloc: Global, words: &'a [String]) -> Result<Option<Request<'a>>, Memory>
     ensures { IfOk result (λ r. option_map view r
         ≡ option_and_then envelope_in (rows_in envelope_app (map string_bytes words.entry.now))) }
