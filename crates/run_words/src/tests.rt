@@ -40,7 +40,7 @@ fn told(alloc: Global, request: Option<Request>) -> Result<String, AllocError> {
 }
 
 // Words and what they ask for.
-const FORMS: [(&str, &str); 16] = [
+const FORMS: [(&str, &str); 17] = [
     ("caps|l|1|1", "caps|l|1|1"),
     ("caps|l|5000|500", "caps|l|5000|500"),
     ("stock|s", "stock|s"),
@@ -54,6 +54,7 @@ const FORMS: [(&str, &str); 16] = [
     ("caps|l|50", "none"),
     ("caps |l|50|60", "none"),
     ("envelope|l|s|n", "none"),
+    ("envelop|l|s", "none"),
     ("brakes|--help", "none"),
     ("", "none"),
     ("plan|l|s|p|--print|cert", "none"),
