@@ -1,5 +1,5 @@
 -- Numbers joined by spaces, one more at a time.
-use Rattle.std.proofs.Common.{◌≡◌, ◌+◌, ◌<◌, ◌≤◌, ℕ, ℤ, pos, zero, suc, List, [], ◌∷◌, ◌++◌, length, take, get_or, map, codes, Option, false, refl, sym, ap, ◌∙◌, subst, append_assoc, arith}
+use Rattle.std.proofs.Common.{◌≡◌, ◌+◌, ◌<◌, ◌≤◌, ℕ, ℤ, pos, zero, suc, List, [], ◌∷◌, ◌++◌, length, take, get_or, map, codes, false, refl, sym, append_assoc, arith}
 use Rattle.std.proofs.lemmas.List.{append-nil, map-append, take-map}
 use Rattle.std.proofs.lemmas.Grind.{common_steps}
 use Rattle.std.proofs.lemmas.Bool.Decides.{nat_tests}
@@ -7,8 +7,8 @@ use Rattle.std.specs.Prelude.{◌==◌}
 use Rattle.std.specs.Fmt.{signed_decimal}
 use Rattle.std.specs.List.{join_with_byte}
 use Rattle.run_io.specs.Pages.{Carries}
-use Rattle.run_io.proofs.PageFacts.{AppendsFront-behind, Carries-put, Carries-trans}
-use Rattle.run_io.specs.Writes.{AppendsFront}
+use Rattle.run_io.proofs.PageFacts.{WritesFront-behind, Carries-put, Carries-trans}
+use Rattle.run_io.specs.Told.{Told, WritesFront}
 use Rattle.report_text.specs.Texts.{numbers_text, spaced}
 
 spaced-suc : (place : ℕ) (text : List ℕ) → spaced (suc place) text ≡ codes " " ++ text
@@ -43,7 +43,7 @@ numbers_text-front numbers i =
     (more.0 ++ codes "\n", rw (more.1, same) (append_assoc (join_with_byte 32 (map signed_decimal (take i numbers))) more.0 (codes "\n")))
 
 -- one more number on a page
-pub Carries-number : (numbers : List ℤ) (place : ℕ) (w w' w'' : Option (List ℕ)) (h h' h'' h3 : List ℕ) → place < length numbers
+pub Carries-number : (numbers : List ℤ) (place : ℕ) (w w' w'' : Told (List ℕ)) (h h' h'' h3 : List ℕ) → place < length numbers
     → Carries w h w' h' (join_with_byte 32 (map signed_decimal (take place numbers))) → Carries w' h' w'' h'' []
     → h3 ≡ h'' ++ spaced place (signed_decimal (get_or numbers place (pos 0))) → Carries w h w'' h3 (join_with_byte 32 (map signed_decimal (take (place + 1) numbers)))
 Carries-number numbers place w w' w'' h h' h'' h3 less c room e =
@@ -55,15 +55,15 @@ Carries-number numbers place w w' w'' h h' h'' h3 less c room e =
     rw text (Carries-put w w'' h h'' h3 _ _ (Carries-trans w w' w'' h h' h'' _ c room) e)
 
 -- the line end behind all numbers
-pub Carries-end : (numbers : List ℤ) (place : ℕ) (w w' w'' : Option (List ℕ)) (h h' h'' h3 : List ℕ) → length numbers ≤ place
+pub Carries-end : (numbers : List ℤ) (place : ℕ) (w w' w'' : Told (List ℕ)) (h h' h'' h3 : List ℕ) → length numbers ≤ place
     → Carries w h w' h' (join_with_byte 32 (map signed_decimal (take place numbers))) → Carries w' h' w'' h'' [] → h3 ≡ h'' ++ codes "\n" → Carries w h w'' h3 (numbers_text numbers)
 Carries-end numbers place w w' w'' h h' h'' h3 all c room e =
     let same : take place numbers ≡ numbers = grind (arith, common_steps) in
     Carries-put w w'' h h'' h3 (join_with_byte 32 (map signed_decimal numbers)) (codes "\n") (Carries-trans w w' w'' h h' h'' _ (rw same at c) room) e
 
 -- where the sink failed behind the first numbers, a front of the whole text was written
-pub AppendsFront-numbers : (numbers : List ℤ) (place : ℕ) (w w' w'' : Option (List ℕ)) (h h' : List ℕ)
-    → Carries w h w' h' (join_with_byte 32 (map signed_decimal (take place numbers))) → AppendsFront w' w'' h' → AppendsFront w w'' (h ++ numbers_text numbers)
-AppendsFront-numbers numbers place w w' w'' h h' c f =
+pub WritesFront-numbers : (numbers : List ℤ) (place : ℕ) (w w' w'' : Told (List ℕ)) (h h' : List ℕ)
+    → Carries w h w' h' (join_with_byte 32 (map signed_decimal (take place numbers))) → WritesFront w' w'' h' → WritesFront w w'' (h ++ numbers_text numbers)
+WritesFront-numbers numbers place w w' w'' h h' c f =
     let front = numbers_text-front numbers place in
-    AppendsFront-behind w w' w'' h h' (join_with_byte 32 (map signed_decimal (take place numbers))) front.0 (numbers_text numbers) c f front.1
+    WritesFront-behind w w' w'' h h' (join_with_byte 32 (map signed_decimal (take place numbers))) front.0 (numbers_text numbers) c f front.1

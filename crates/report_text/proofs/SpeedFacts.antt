@@ -1,5 +1,5 @@
 -- The numbers of a line of bands, as 64-bit numbers.
-use Rattle.std.proofs.Common.{◌≡◌, ◌≤◌, ◌<◌, ◌^◌, ℕ, ℤ, pos, [], ◌∷◌, ◌≤ℤ◌, SFits, to_z, of_z, refl, arith}
+use Rattle.std.proofs.Common.{◌≡◌, ◌≤◌, ◌<◌, ◌^◌, ℕ, ℤ, pos, [], ◌∷◌, SFits, to_z, of_z, arith}
 use Rattle.std.specs.Int.{w64}
 use Rattle.std.proofs.lemmas.Int.{ints, to_z-of_z}
 use Rattle.run_rules.specs.Grids.{row, top_of}

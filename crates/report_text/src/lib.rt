@@ -3,10 +3,8 @@
 
 ghost use Rattle.std.specs.Prelude.{◌≡◌, ◌≤◌, ◌<◌, ◌+◌, ◌++◌, [], length, OnOk, OnErr};
 ghost use Rattle.std.specs.Fmt.{signed_decimal};
-ghost use Rattle.std.specs.Io.KnownBytes.{Appends};
-ghost use Rattle.run_io.specs.Causes.{HasCause};
 ghost use Rattle.run_io.specs.Pages.{Carries};
-ghost use Rattle.run_io.specs.Writes.{AppendsFront};
+ghost use Rattle.run_io.specs.Told.{HasCause, Writes, WritesFront};
 ghost use Rattle.report_text.specs.Texts.{bands_text, list_text, numbers_text, point_line, reach_text, spaced, speed_line, train_line};
 
 use run_io::{Failed, PAGE, Page, Sink};
@@ -15,9 +13,10 @@ use unit_rules::Reach;
 
 /// Writes the numbers in decimal, one space between, and a line end.
 pub fn write_numbers<K: Sink>(out: &mut K, numbers: &[i64]) -> Result<(), Failed>
-    ensures ok { OnOk result (Appends (K.written out.old) (K.written out.new) (numbers_text numbers.now)) }
-    ensures failed { OnErr result (AppendsFront (K.written out.old) (K.written out.new) (numbers_text numbers.now)) }
-    ensures cause { HasCause (K.faults out.old) (K.faults out.new) result }
+    ensures ok { OnOk result (Writes (K.told out.old) (K.told out.new) (numbers_text numbers.now)) }
+    ensures failed { OnErr result (WritesFront (K.told out.old) (K.told out.new)
+        (numbers_text numbers.now)) }
+    ensures cause { HasCause (K.told out.old) (K.told out.new) result }
 {
     let mut page = Page::new();
     put_numbers(&mut page, out, numbers)?;
@@ -26,9 +25,11 @@ pub fn write_numbers<K: Sink>(out: &mut K, numbers: &[i64]) -> Result<(), Failed
 
 /// Puts the same text behind a page, which is written out where it is full.
 pub fn put_numbers<K: Sink>(page: &mut Page, out: &mut K, numbers: &[i64]) -> Result<(), Failed>
-    ensures ok { OnOk result (Carries (K.written out.old) page.old (K.written out.new) page.new (numbers_text numbers.now)) }
-    ensures failed { OnErr result (AppendsFront (K.written out.old) (K.written out.new) (page.old ++ numbers_text numbers.now)) }
-    ensures cause { HasCause (K.faults out.old) (K.faults out.new) result }
+    ensures ok { OnOk result (Carries (K.told out.old) page.old (K.told out.new) page.new
+        (numbers_text numbers.now)) }
+    ensures failed { OnErr result (WritesFront (K.told out.old) (K.told out.new)
+        (page.old ++ numbers_text numbers.now)) }
+    ensures cause { HasCause (K.told out.old) (K.told out.new) result }
 {
     for (place, number) in numbers.iter().enumerate() {
         page.make_room(out, 21)?;
@@ -53,9 +54,10 @@ fn put_spaced(page: &mut Page, place: usize, number: &i64)
 /// Writes the tables of a train: `MOVED_MASS MASS LENGTH TOP`, and then `K PUSH BRAKING` for each
 /// whole km/h up to the top speed.
 pub fn write_bands<K: Sink>(out: &mut K, stock: &Stock) -> Result<(), Failed>
-    ensures ok { OnOk result (Appends (K.written out.old) (K.written out.new) (bands_text stock.now)) }
-    ensures failed { OnErr result (AppendsFront (K.written out.old) (K.written out.new) (bands_text stock.now)) }
-    ensures cause { HasCause (K.faults out.old) (K.faults out.new) result }
+    ensures ok { OnOk result (Writes (K.told out.old) (K.told out.new) (bands_text stock.now)) }
+    ensures failed { OnErr result (WritesFront (K.told out.old) (K.told out.new)
+        (bands_text stock.now)) }
+    ensures cause { HasCause (K.told out.old) (K.told out.new) result }
 {
     let mut page = Page::new();
     put_train(&mut page, out, stock)?;
@@ -67,9 +69,11 @@ pub fn write_bands<K: Sink>(out: &mut K, stock: &Stock) -> Result<(), Failed>
 
 // Puts the line of a train's numbers.
 fn put_train<K: Sink>(page: &mut Page, out: &mut K, stock: &Stock) -> Result<(), Failed>
-    ensures ok { OnOk result (Carries (K.written out.old) page.old (K.written out.new) page.new (train_line stock.now)) }
-    ensures failed { OnErr result (AppendsFront (K.written out.old) (K.written out.new) (page.old ++ train_line stock.now)) }
-    ensures cause { HasCause (K.faults out.old) (K.faults out.new) result }
+    ensures ok { OnOk result (Carries (K.told out.old) page.old (K.told out.new) page.new
+        (train_line stock.now)) }
+    ensures failed { OnErr result (WritesFront (K.told out.old) (K.told out.new)
+        (page.old ++ train_line stock.now)) }
+    ensures cause { HasCause (K.told out.old) (K.told out.new) result }
 {
     let numbers = [
         stock.moved_mass() as i64,
@@ -83,9 +87,11 @@ fn put_train<K: Sink>(page: &mut Page, out: &mut K, stock: &Stock) -> Result<(),
 // Puts the line of a whole km/h: the speed, the push and the braking.
 fn put_speed<K: Sink>(page: &mut Page, out: &mut K, stock: &Stock, kmh: u32) -> Result<(), Failed>
     requires { kmh ≤ stock.now.top }
-    ensures ok { OnOk result (Carries (K.written out.old) page.old (K.written out.new) page.new (speed_line stock.now kmh)) }
-    ensures failed { OnErr result (AppendsFront (K.written out.old) (K.written out.new) (page.old ++ speed_line stock.now kmh)) }
-    ensures cause { HasCause (K.faults out.old) (K.faults out.new) result }
+    ensures ok { OnOk result (Carries (K.told out.old) page.old (K.told out.new) page.new
+        (speed_line stock.now kmh)) }
+    ensures failed { OnErr result (WritesFront (K.told out.old) (K.told out.new)
+        (page.old ++ speed_line stock.now kmh)) }
+    ensures cause { HasCause (K.told out.old) (K.told out.new) result }
 {
     let numbers = [kmh as i64, stock.push().row(kmh), stock.brake().row(kmh)];
     put_numbers(page, out, &numbers)
@@ -93,9 +99,10 @@ fn put_speed<K: Sink>(page: &mut Page, out: &mut K, stock: &Stock, kmh: u32) -> 
 
 /// Writes a line `POINT NUMBER` for each number of a list by point, from point 0.
 pub fn write_list<K: Sink>(out: &mut K, numbers: &[u32]) -> Result<(), Failed>
-    ensures ok { OnOk result (Appends (K.written out.old) (K.written out.new) (list_text numbers.now)) }
-    ensures failed { OnErr result (AppendsFront (K.written out.old) (K.written out.new) (list_text numbers.now)) }
-    ensures cause { HasCause (K.faults out.old) (K.faults out.new) result }
+    ensures ok { OnOk result (Writes (K.told out.old) (K.told out.new) (list_text numbers.now)) }
+    ensures failed { OnErr result (WritesFront (K.told out.old) (K.told out.new)
+        (list_text numbers.now)) }
+    ensures cause { HasCause (K.told out.old) (K.told out.new) result }
 {
     let mut page = Page::new();
     for (point, number) in numbers.iter().enumerate() {
@@ -118,9 +125,10 @@ fn put_point(page: &mut Page, point: u64, number: u32)
 
 /// Writes how far a train gets: `whole`, or `stalled K` with the first point that no train gets to.
 pub fn write_reach<K: Sink>(out: &mut K, reach: Reach) -> Result<(), Failed>
-    ensures ok { OnOk result (Appends (K.written out.old) (K.written out.new) (reach_text reach)) }
-    ensures failed { OnErr result (AppendsFront (K.written out.old) (K.written out.new) (reach_text reach)) }
-    ensures cause { HasCause (K.faults out.old) (K.faults out.new) result }
+    ensures ok { OnOk result (Writes (K.told out.old) (K.told out.new) (reach_text reach)) }
+    ensures failed { OnErr result (WritesFront (K.told out.old) (K.told out.new)
+        (reach_text reach)) }
+    ensures cause { HasCause (K.told out.old) (K.told out.new) result }
 {
     let mut page = Page::new();
     put_reach(&mut page, reach);

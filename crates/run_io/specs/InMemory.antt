@@ -3,6 +3,8 @@ use Rattle.std.specs.Prelude.{ℕ, ◌+◌, ◌-◌, ◌^◌, ◌≤◌, min, Li
 use Rattle.run_io.specs.declared.Fetch.{Fetch}
 use Rattle.run_io.specs.declared.Fetch.TheVariants.{Failed, Absent, TooLong, Memory}
 use Rattle.std.specs.Str.{bytes_eq}
+use Rattle.run_io.specs.Fetches.{Files}
+use Rattle.run_io.specs.Told.{Told}
 
 -- a count with one more, up to the end of its type
 abbrev pub one_more : ℕ → ℕ
@@ -20,6 +22,10 @@ abbrev pub find_file : List (List ℕ × List ℕ) → List ℕ → Option (List
 find_file [] name = None
 find_file (f ∷ files) name = if bytes_eq f.0 name then Some f.1 else find_file files name
 
+-- what such a shelf tells
+abbrev pub shelf_told : ShelfState → Told Files
+shelf_told s = record { holds = Some (find_file s.files); faults = s.faults }
+
 -- a source: the bytes that are left, and how many it gives at a call
 pub record SourceState : Type 0 where
   pub left : List ℕ
@@ -27,6 +33,10 @@ pub record SourceState : Type 0 where
   pub failing : List ℕ
   pub calls : ℕ
   pub faults : ℕ
+
+-- what such a source tells
+abbrev pub source_told : SourceState → Told (List ℕ)
+source_told s = record { holds = Some s.left; faults = s.faults }
 
 -- a sink: the bytes written, its room, and how many it takes at a call
 pub record SinkState : Type 0 where
@@ -36,6 +46,10 @@ pub record SinkState : Type 0 where
   pub failing : List ℕ
   pub calls : ℕ
   pub faults : ℕ
+
+-- what such a sink tells
+abbrev pub sink_told : SinkState → Told (List ℕ)
+sink_told s = record { holds = Some s.written; faults = s.faults }
 
 -- the next write fails: its number is one of those that fail, or the room is full
 abbrev pub WriteFails : SinkState → Type 0

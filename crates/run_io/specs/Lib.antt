@@ -1,4 +1,4 @@
-pub mod Causes
+pub mod Told
 pub mod Fetches
 pub mod InMemory
 pub mod Pages

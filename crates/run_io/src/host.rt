@@ -46,9 +46,7 @@ fn read_most<T: Read>(file: &mut T, limit: usize, into: &mut Vec<u8>) -> Result<
 }
 
 impl<R: Files> Shelf for HostShelf<R> {
-    ghost files = { λ _. None };
-
-    ghost faults = { λ s. s.faults };
+    ghost told = { λ s. record { holds = None; faults = s.faults } };
 
     fn fetch(&mut self, name: &str, most: u64, into: &mut Vec<u8>) -> Result<(), Fetch> {
         let most = most as usize;
@@ -82,9 +80,7 @@ impl<T: Read> HostSource<T> {
 }
 
 impl<T: Read> Source for HostSource<T> {
-    ghost left = { λ s. T.remaining s.inner };
-
-    ghost faults = { λ s. s.faults };
+    ghost told = { λ s. record { holds = T.remaining s.inner; faults = s.faults } };
 
     fn read(&mut self, buf: &mut [u8]) -> Result<usize, Failed> {
         match self.inner.read(buf) {
@@ -111,9 +107,7 @@ impl<W: Write> HostSink<W> {
 }
 
 impl<W: Write> Sink for HostSink<W> {
-    ghost written = { λ s. W.contents s.inner };
-
-    ghost faults = { λ s. s.faults };
+    ghost told = { λ s. record { holds = W.contents s.inner; faults = s.faults } };
 
     fn write(&mut self, piece: &[u8]) -> Result<usize, Failed> {
         match self.inner.write(piece) {

@@ -4,10 +4,10 @@
 
 ghost use Rattle.std.specs.Prelude.{◌≡◌, ℕ, ◌^◌, ◌<◌, ◌≤◌, List, [], length, Option, OnOk, OnErr};
 ghost use Rattle.std.specs.Io.{ReadsAtMost};
-ghost use Rattle.std.specs.Io.KnownBytes.{Appends, ReadConsumes, WriteAppends};
-ghost use Rattle.run_io.specs.Causes.{HasCause};
+ghost use Rattle.std.specs.Io.KnownBytes.{ReadConsumes, WriteAppends};
 ghost use Rattle.run_io.specs.Fetches.{FetchCause, Fetches, Files};
-ghost use Rattle.run_io.specs.Writes.{AppendsFront, TakesSome};
+ghost use Rattle.run_io.specs.Told.{HasCause, Told, Writes, WritesFront};
+ghost use Rattle.run_io.specs.Writes.{TakesSome};
 
 mod host;
 mod memory;
@@ -35,60 +35,51 @@ pub enum Fetch {
 
 /// A shelf of named files.
 pub trait Shelf {
-    /// The files, where they are told. No call changes them.
-    ghost files: { Self → Files };
-
-    /// How often the shelf has failed.
-    ghost faults: { Self → ℕ };
+    /// The files, where they are told, and how often the shelf has failed. No call changes the files.
+    ghost told: { Self → Told Files };
 
     /// Fetches a file of at most `most` bytes into an empty vector. After [`Fetch::TooLong`] there
     /// is one byte more, and after the other refusals nothing is said of `into`.
     fn fetch(&mut self, name: &str, most: u64, into: &mut Vec<u8>) -> Result<(), Fetch>
         requires empty { into.old.items ≡ [] }
         requires small { most ≤ 2 ^ 40 }
-        ensures files { files self.new ≡ files self.old }
-        ensures bytes { Fetches (files self.old) name.now most result into.new.items }
-        ensures cause { FetchCause (faults self.old) (faults self.new) result };
+        ensures files { (told self.new).holds ≡ (told self.old).holds }
+        ensures bytes { Fetches (told self.old).holds name.now most result into.new.items }
+        ensures cause { FetchCause (told self.old) (told self.new) result };
 }
 
 /// A source of input.
 pub trait Source {
-    /// The bytes that are left, where they are told.
-    ghost left: { Self → Option (List ℕ) };
-
-    /// How often the source has failed.
-    ghost faults: { Self → ℕ };
+    /// The bytes that are left, where they are told, and how often the source has failed.
+    ghost told: { Self → Told (List ℕ) };
 
     /// Reads the next bytes into the front of the buffer; none only at the end of the input. A
     /// failure takes nothing.
     fn read(&mut self, buf: &mut [u8]) -> Result<usize, Failed>
         requires { 0 < length buf.old }
         ensures bound { ReadsAtMost result buf.new }
-        ensures bytes { ReadConsumes (left self.old) (left self.new) result buf.new }
-        ensures cause { HasCause (faults self.old) (faults self.new) result };
+        ensures bytes { ReadConsumes (told self.old).holds (told self.new).holds result buf.new }
+        ensures cause { HasCause (told self.old) (told self.new) result };
 }
 
 /// A sink of output.
 pub trait Sink {
-    /// The bytes written, where they are told.
-    ghost written: { Self → Option (List ℕ) };
-
-    /// How often the sink has failed.
-    ghost faults: { Self → ℕ };
+    /// The bytes written, where they are told, and how often the sink has failed.
+    ghost told: { Self → Told (List ℕ) };
 
     /// Writes a front of the piece, of at least one byte. A failure writes nothing.
     fn write(&mut self, piece: &[u8]) -> Result<usize, Failed>
         requires { 0 < length piece.now }
         ensures bound { TakesSome result piece.now }
-        ensures bytes { WriteAppends (written self.old) (written self.new) result piece.now }
-        ensures cause { HasCause (faults self.old) (faults self.new) result };
+        ensures bytes { WriteAppends (told self.old).holds (told self.new).holds result piece.now }
+        ensures cause { HasCause (told self.old) (told self.new) result };
 }
 
 /// Writes the whole piece. After a failure a front of it was written.
 pub fn write_whole<K: Sink>(out: &mut K, piece: &[u8]) -> Result<(), Failed>
-    ensures ok { OnOk result (Appends (K.written out.old) (K.written out.new) piece.now) }
-    ensures failed { OnErr result (AppendsFront (K.written out.old) (K.written out.new) piece.now) }
-    ensures cause { HasCause (K.faults out.old) (K.faults out.new) result }
+    ensures ok { OnOk result (Writes (K.told out.old) (K.told out.new) piece.now) }
+    ensures failed { OnErr result (WritesFront (K.told out.old) (K.told out.new) piece.now) }
+    ensures cause { HasCause (K.told out.old) (K.told out.new) result }
 {
     let mut at = 0;
     while at < piece.len() {

@@ -4,9 +4,9 @@
 ghost use Rattle.std.specs.Prelude.{option_map, IfErr, ◌≢◌, ◌^◌, ◌≡◌, ◌≤◌, ◌<◌, ◌-◌, ◌++◌, ◌↔◌, ℕ, List, [], length, map, min, take, drop, Some, IfOk, IsErr, Contains, OnErr, string_bytes};
 ghost use Rattle.std.specs.Io.{ReadsAtMost};
 ghost use Rattle.std.specs.Io.KnownBytes.{ReadConsumes, WriteAppends};
-ghost use Rattle.run_io.specs.Causes.{HasCause};
 ghost use Rattle.run_io.specs.Fetches.{FetchCause, Fetches};
-ghost use Rattle.run_io.specs.InMemory.{ShelfAfter, WriteFails, find_file, one_more};
+ghost use Rattle.run_io.specs.InMemory.{ShelfAfter, WriteFails, find_file, one_more, shelf_told, sink_told, source_told};
+ghost use Rattle.run_io.specs.Told.{HasCause};
 ghost use Rattle.run_io.specs.Writes.{TakesSome};
 
 use crate::{Failed, Fetch, Shelf, Sink, Source};
@@ -31,9 +31,17 @@ impl Model for MemSink {
 
     ghost Value = { SinkState };
 
-    ghost view = { λ s. record { written = s.bytes.items; room = s.room; most = s.most; failing = s.failing.items; calls = s.calls; faults = s.faults } };
+    ghost view = { λ s. record {
+      written = s.bytes.items;
+      room = s.room;
+      most = s.most;
+      failing = s.failing.items;
+      calls = s.calls;
+      faults = s.faults;
+    } };
 
-    ghost invariant = { λ s. (vec_len s.bytes ≤ s.room) × (s.room ≤ vec_capacity s.bytes) × (1 ≤ s.most) };
+    ghost invariant = { λ s. (vec_len s.bytes ≤ s.room) × (s.room ≤ vec_capacity s.bytes)
+        × (1 ≤ s.most) };
 }
 
 impl MemSink {
@@ -45,7 +53,14 @@ impl MemSink {
         failing: Vec<u64>,
     ) -> Result<MemSink, Memory>
         requires { 1 ≤ most }
-        ensures { IfOk result (λ s. s ≡ record { written = []; room = room; most = most; failing = failing.items; calls = 0; faults = 0 }) }
+        ensures { IfOk result (λ s. s ≡ record {
+          written = [];
+          room = room;
+          most = most;
+          failing = failing.items;
+          calls = 0;
+          faults = 0;
+        }) }
     {
         match Vec::with_capacity(alloc, room) {
             Ok(bytes) => Ok(MemSink {
@@ -69,18 +84,25 @@ impl MemSink {
 }
 
 impl Sink for MemSink {
-    ghost written = { λ s. Some s.written };
-
-    ghost faults = { λ s. s.faults };
+    ghost told = { sink_told };
 
     fn write(&mut self, piece: &[u8]) -> Result<usize, Failed>
         requires { 0 < length piece.now }
         ensures bound { TakesSome result piece.now }
-        ensures bytes { WriteAppends (Some self.old.written) (Some self.new.written) result piece.now }
-        ensures cause { HasCause self.old.faults self.new.faults result }
+        ensures bytes { WriteAppends (sink_told self.old).holds (sink_told self.new).holds
+            result piece.now }
+        ensures cause { HasCause (sink_told self.old) (sink_told self.new) result }
         ensures fails { IsErr result ↔ WriteFails self.old }
-        ensures ok { IfOk result (λ n. (n ≡ min (min (length piece.now) (self.old.room - length self.old.written)) self.old.most) × (self.new ≡ record self.old { written = self.old.written ++ take n piece.now; calls = one_more self.old.calls })) }
-        ensures err { OnErr result (self.new ≡ record self.old { calls = one_more self.old.calls; faults = one_more self.old.faults }) }
+        ensures ok { IfOk result (λ n.
+            (n ≡ min (min (length piece.now) (self.old.room - length self.old.written)) self.old.most)
+            × (self.new ≡ record self.old {
+              written = self.old.written ++ take n piece.now;
+              calls = one_more self.old.calls;
+            })) }
+        ensures err { OnErr result (self.new ≡ record self.old {
+          calls = one_more self.old.calls;
+          faults = one_more self.old.faults;
+        }) }
     {
         self.calls = self.calls.saturating_add(1);
         let free = self.room - self.bytes.len();
@@ -113,7 +135,13 @@ impl Model for MemSource {
 
     ghost Value = { SourceState };
 
-    ghost view = { λ s. record { left = drop s.at s.bytes.items; most = s.most; failing = s.failing.items; calls = s.calls; faults = s.faults } };
+    ghost view = { λ s. record {
+      left = drop s.at s.bytes.items;
+      most = s.most;
+      failing = s.failing.items;
+      calls = s.calls;
+      faults = s.faults;
+    } };
 
     ghost invariant = { λ s. (s.at ≤ vec_len s.bytes) × (1 ≤ s.most) };
 }
@@ -121,7 +149,13 @@ impl Model for MemSource {
 impl MemSource {
     pub fn new(bytes: Vec<u8>, most: usize, failing: Vec<u64>) -> MemSource
         requires { 1 ≤ most }
-        ensures { result ≡ record { left = bytes.items; most = most; failing = failing.items; calls = 0; faults = 0 } }
+        ensures { result ≡ record {
+          left = bytes.items;
+          most = most;
+          failing = failing.items;
+          calls = 0;
+          faults = 0;
+        } }
     {
         MemSource {
             bytes,
@@ -135,18 +169,25 @@ impl MemSource {
 }
 
 impl Source for MemSource {
-    ghost left = { λ s. Some s.left };
-
-    ghost faults = { λ s. s.faults };
+    ghost told = { source_told };
 
     fn read(&mut self, buf: &mut [u8]) -> Result<usize, Failed>
         requires { 0 < length buf.old }
         ensures bound { ReadsAtMost result buf.new }
-        ensures bytes { ReadConsumes (Some self.old.left) (Some self.new.left) result buf.new }
-        ensures cause { HasCause self.old.faults self.new.faults result }
+        ensures bytes { ReadConsumes (source_told self.old).holds (source_told self.new).holds
+            result buf.new }
+        ensures cause { HasCause (source_told self.old) (source_told self.new) result }
         ensures fails { IsErr result ↔ Contains self.old.failing (one_more self.old.calls) }
-        ensures ok { IfOk result (λ n. (n ≡ min (min (length buf.old) (length self.old.left)) self.old.most) × (self.new ≡ record self.old { left = drop n self.old.left; calls = one_more self.old.calls })) }
-        ensures err { OnErr result (self.new ≡ record self.old { calls = one_more self.old.calls; faults = one_more self.old.faults }) }
+        ensures ok { IfOk result (λ n.
+            (n ≡ min (min (length buf.old) (length self.old.left)) self.old.most)
+            × (self.new ≡ record self.old {
+              left = drop n self.old.left;
+              calls = one_more self.old.calls;
+            })) }
+        ensures err { OnErr result (self.new ≡ record self.old {
+          calls = one_more self.old.calls;
+          faults = one_more self.old.faults;
+        }) }
     {
         self.calls = self.calls.saturating_add(1);
         if self.failing.contains(&self.calls) {
@@ -176,12 +217,22 @@ impl Model for MemShelf {
 
     ghost Value = { ShelfState };
 
-    ghost view = { λ s. record { files = map (λ f. (string_bytes f.0, f.1.items)) s.files.items; failing = s.failing.items; calls = s.calls; faults = s.faults } };
+    ghost view = { λ s. record {
+      files = map (λ f. (string_bytes f.0, f.1.items)) s.files.items;
+      failing = s.failing.items;
+      calls = s.calls;
+      faults = s.faults;
+    } };
 }
 
 impl MemShelf {
     pub fn new(files: Vec<(String, Vec<u8>)>, failing: Vec<u64>) -> MemShelf
-        ensures { result ≡ record { files = map (λ f. (string_bytes f.0, f.1.items)) files.items; failing = failing.items; calls = 0; faults = 0 } }
+        ensures { result ≡ record {
+          files = map (λ f. (string_bytes f.0, f.1.items)) files.items;
+          failing = failing.items;
+          calls = 0;
+          faults = 0;
+        } }
     {
         MemShelf {
             files,
@@ -194,7 +245,8 @@ impl MemShelf {
 
 // The bytes of the first file of a name.
 fn find_file<'a>(files: &'a [(String, Vec<u8>)], name: &str) -> Option<&'a [u8]>
-    ensures { option_map (λ s. s.now) result ≡ find_file (map (λ f. (string_bytes f.0, f.1.items)) files.now) name.now }
+    ensures { option_map (λ s. s.now) result
+        ≡ find_file (map (λ f. (string_bytes f.0, f.1.items)) files.now) name.now }
 {
     for file in files {
         if file.0.as_str() == name {
@@ -224,17 +276,16 @@ fn copy_file(file: &[u8], most: u64, into: &mut Vec<u8>) -> Result<(), Fetch>
 }
 
 impl Shelf for MemShelf {
-    ghost files = { λ s. Some (find_file s.files) };
-
-    ghost faults = { λ s. s.faults };
+    ghost told = { shelf_told };
 
     fn fetch(&mut self, name: &str, most: u64, into: &mut Vec<u8>) -> Result<(), Fetch>
         requires empty { into.old.items ≡ [] }
         requires small { most ≤ 2 ^ 40 }
-        ensures files { Some (find_file self.new.files) ≡ Some (find_file self.old.files) }
-        ensures bytes { Fetches (Some (find_file self.old.files)) name.now most result into.new.items }
-        ensures cause { FetchCause self.old.faults self.new.faults result }
-        ensures fails { (result ≡ Err Fetch.Failed) ↔ Contains self.old.failing (one_more self.old.calls) }
+        ensures files { (shelf_told self.new).holds ≡ (shelf_told self.old).holds }
+        ensures bytes { Fetches (shelf_told self.old).holds name.now most result into.new.items }
+        ensures cause { FetchCause (shelf_told self.old) (shelf_told self.new) result }
+        ensures fails { (result ≡ Err Fetch.Failed) ↔ Contains self.old.failing
+            (one_more self.old.calls) }
         ensures after { ShelfAfter self.old self.new result }
     {
         self.calls = self.calls.saturating_add(1);

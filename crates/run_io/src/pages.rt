@@ -2,10 +2,8 @@
 
 ghost use Rattle.std.specs.Prelude.{◌≡◌, ◌+◌, ◌≤◌, ◌++◌, [], length, OnOk, OnErr};
 ghost use Rattle.std.specs.Fmt.{decimal, signed_decimal};
-ghost use Rattle.std.specs.Io.KnownBytes.{Appends};
-ghost use Rattle.run_io.specs.Causes.{HasCause};
 ghost use Rattle.run_io.specs.Pages.{Carries};
-ghost use Rattle.run_io.specs.Writes.{AppendsFront};
+ghost use Rattle.run_io.specs.Told.{HasCause, Writes, WritesFront};
 
 use crate::{Failed, Sink, write_whole};
 use arrayvec::ArrayVec;
@@ -71,10 +69,10 @@ impl Page {
     /// Makes room for so many bytes, and writes the text out where there is less.
     pub fn make_room<K: Sink>(&mut self, out: &mut K, room: usize) -> Result<(), Failed>
         requires { room ≤ PAGE }
-        ensures ok { OnOk result (Carries (K.written out.old) self.old (K.written out.new) self.new []) }
+        ensures ok { OnOk result (Carries (K.told out.old) self.old (K.told out.new) self.new []) }
         ensures room { OnOk result (length self.new + room ≤ PAGE) }
-        ensures failed { OnErr result (AppendsFront (K.written out.old) (K.written out.new) self.old) }
-        ensures cause { HasCause (K.faults out.old) (K.faults out.new) result }
+        ensures failed { OnErr result (WritesFront (K.told out.old) (K.told out.new) self.old) }
+        ensures cause { HasCause (K.told out.old) (K.told out.new) result }
     {
         if PAGE - self.text.len() >= room {
             return Ok(());
@@ -84,10 +82,10 @@ impl Page {
 
     /// Writes the text out. After a failure a front of it was written.
     pub fn flush<K: Sink>(&mut self, out: &mut K) -> Result<(), Failed>
-        ensures ok { OnOk result (Appends (K.written out.old) (K.written out.new) self.old) }
+        ensures ok { OnOk result (Writes (K.told out.old) (K.told out.new) self.old) }
         ensures empty { OnOk result (self.new ≡ []) }
-        ensures failed { OnErr result (AppendsFront (K.written out.old) (K.written out.new) self.old) }
-        ensures cause { HasCause (K.faults out.old) (K.faults out.new) result }
+        ensures failed { OnErr result (WritesFront (K.told out.old) (K.told out.new) self.old) }
+        ensures cause { HasCause (K.told out.old) (K.told out.new) result }
     {
         write_whole(out, self.text.as_slice())?;
         self.text.clear();

@@ -6,6 +6,6 @@ use Rattle.report_text.proofs.put_numbers.Given as goal
 
 abbrev pub invariant-loop-place : goal.invariant-loop-place
 invariant-loop-place g l = record {
-  carried : Carries (g.K.Sink.written l.fn.out) l.fn.page (g.K.Sink.written l.out) l.page (join_with_byte 32 (map signed_decimal (take l.place l.numbers)));
-  later : g.K.Sink.faults l.fn.out ≤ g.K.Sink.faults l.out;
+  carried : Carries (g.K.Sink.told l.fn.out) l.fn.page (g.K.Sink.told l.out) l.page (join_with_byte 32 (map signed_decimal (take l.place l.numbers)));
+  later : (g.K.Sink.told l.fn.out).faults ≤ (g.K.Sink.told l.out).faults;
 }

@@ -1,6 +1,6 @@
 use Rattle.std.proofs.Common.{length, length-drop, ◌-◌, ◌≤◌, ℕ, arith}
 use Rattle.std.proofs.lemmas.List.{length-take}
-use Rattle.run_io.proofs.Written.{Appends-more}
+use Rattle.run_io.proofs.Written.{Writes-more}
 use Rattle.run_io.proofs.write_whole.Goals as goal
 
 pub loop-at-preserved : goal.loop-at-preserved
@@ -11,6 +11,6 @@ loop-at-preserved g c =
     let most : c.in_ok-count.count ≤ length c.args.piece.now - c.loop-at.at = omega (arith, bound.1, length-take {A = ℕ}, length-drop {A = ℕ}) in
     record {
       within = omega (arith, inv.within, most);
-      sent = Appends-more (g.K.Sink.written c.args.out.now) (g.K.Sink.written c.loop-at.out) (g.K.Sink.written c.write.new.self) c.args.piece.now c.loop-at.at c.in_ok-count.count inv.within most inv.sent c.in_ok-count.ensures.bytes;
+      sent = Writes-more (g.K.Sink.told c.args.out.now) (g.K.Sink.told c.loop-at.out) (g.K.Sink.told c.write.new.self) c.args.piece.now c.loop-at.at c.in_ok-count.count inv.within most inv.sent c.in_ok-count.ensures.bytes;
       later = omega (arith, inv.later, cause);
     }
