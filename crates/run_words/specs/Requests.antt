@@ -46,11 +46,13 @@ stock_in rows = do
   stock ← first_of (codes "stock") rows
   Some (Stock stock)
 
+-- a command of this name for a train on a line: `NAME LINE STOCK`
+abbrev pub train_app : Text → App
+train_app name = plain_app name taking positional (codes "line") taking positional (codes "stock")
+
 -- `rise LINE STOCK KMH`: a speed from 0 to 500 km/h
 abbrev pub rise_app : App
-rise_app =
-    plain_app (codes "rise")
-    taking positional (codes "line") taking positional (codes "stock") taking positional (codes "kmh")
+rise_app = train_app (codes "rise") taking positional (codes "kmh")
 
 abbrev pub rise_in : List Row → Option Request
 rise_in rows = do
@@ -61,7 +63,7 @@ rise_in rows = do
 
 -- `brakes LINE STOCK`
 abbrev pub brakes_app : App
-brakes_app = plain_app (codes "brakes") taking positional (codes "line") taking positional (codes "stock")
+brakes_app = train_app (codes "brakes")
 
 abbrev pub brakes_in : List Row → Option Request
 brakes_in rows = do
@@ -71,7 +73,7 @@ brakes_in rows = do
 
 -- `envelope LINE STOCK`
 abbrev pub envelope_app : App
-envelope_app = plain_app (codes "envelope") taking positional (codes "line") taking positional (codes "stock")
+envelope_app = train_app (codes "envelope")
 
 abbrev pub envelope_in : List Row → Option Request
 envelope_in rows = do

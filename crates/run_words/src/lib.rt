@@ -5,7 +5,7 @@ ghost use Rattle.std.specs.Prelude.{◌≡◌, IfOk, map, option_and_then, optio
 ghost use Rattle.clap.specs.Words.{app_of, found_of, rows_of};
 ghost use Rattle.run_words.specs.Commands.{rows_in};
 ghost use Rattle.run_words.specs.Requests.{asks, request_of, view};
-ghost use Rattle.run_words.specs.Requests.{brakes_app, caps_app, envelope_app, rise_app, stock_app};
+ghost use Rattle.run_words.specs.Requests.{brakes_app, caps_app, envelope_app, rise_app, stock_app, train_app};
 ghost use Rattle.run_words.specs.Requests.{brakes_in, caps_in, envelope_in, rise_in, stock_in};
 
 mod command;
@@ -105,6 +105,15 @@ fn stock_of<'a>(matches: &ArgMatches<'a>) -> Option<Request<'a>>
     Some(Request::Stock(StockForm { stock }))
 }
 
+// The command of a train on a line, `NAME LINE STOCK`.
+fn train_command<'a>(alloc: Global, name: &'a str) -> Result<Command<'a>, Memory>
+    ensures { IfOk result (λ c. app_of c ≡ train_app name.entry.now) }
+{
+    let command = plain_command(alloc, name);
+    let command = with_value(alloc, command, "line")?;
+    with_value(alloc, command, "stock")
+}
+
 // Reads `rise LINE STOCK KMH`.
 fn read_rise<'a>(alloc: Global, words: &'a [String]) -> Result<Option<Request<'a>>, Memory>
     ensures { IfOk result (λ r. option_map view r
@@ -119,9 +128,7 @@ fn read_rise<'a>(alloc: Global, words: &'a [String]) -> Result<Option<Request<'a
 fn rise_command<'a>(alloc: Global) -> Result<Command<'a>, Memory>
     ensures { IfOk result (λ c. app_of c ≡ rise_app) }
 {
-    let command = plain_command(alloc, "rise");
-    let command = with_value(alloc, command, "line")?;
-    let command = with_value(alloc, command, "stock")?;
+    let command = train_command(alloc, "rise")?;
     with_value(alloc, command, "kmh")
 }
 
@@ -139,18 +146,10 @@ fn read_brakes<'a>(alloc: Global, words: &'a [String]) -> Result<Option<Request<
     ensures { IfOk result (λ r. option_map view r
         ≡ option_and_then brakes_in (rows_in brakes_app (map string_bytes words.entry.now))) }
 {
-    match matches_by(brakes_command(alloc)?, words)? {
+    match matches_by(train_command(alloc, "brakes")?, words)? {
         None => Ok(None),
         Some(matches) => Ok(brakes_of(&matches)),
     }
-}
-
-fn brakes_command<'a>(alloc: Global) -> Result<Command<'a>, Memory>
-    ensures { IfOk result (λ c. app_of c ≡ brakes_app) }
-{
-    let command = plain_command(alloc, "brakes");
-    let command = with_value(alloc, command, "line")?;
-    with_value(alloc, command, "stock")
 }
 
 fn brakes_of<'a>(matches: &ArgMatches<'a>) -> Option<Request<'a>>
@@ -166,18 +165,10 @@ fn read_envelope<'a>(alloc: Global, words: &'a [String]) -> Result<Option<Reques
     ensures { IfOk result (λ r. option_map view r
         ≡ option_and_then envelope_in (rows_in envelope_app (map string_bytes words.entry.now))) }
 {
-    match matches_by(envelope_command(alloc)?, words)? {
+    match matches_by(train_command(alloc, "envelope")?, words)? {
         None => Ok(None),
         Some(matches) => Ok(envelope_of(&matches)),
     }
-}
-
-fn envelope_command<'a>(alloc: Global) -> Result<Command<'a>, Memory>
-    ensures { IfOk result (λ c. app_of c ≡ envelope_app) }
-{
-    let command = plain_command(alloc, "envelope");
-    let command = with_value(alloc, command, "line")?;
-    with_value(alloc, command, "stock")
 }
 
 fn envelope_of<'a>(matches: &ArgMatches<'a>) -> Option<Request<'a>>
