@@ -1,0 +1,88 @@
+//! What a train is on a line: the pulls, the step rule and the limits, made of its tables.
+#![tactic(auto)]
+
+ghost use Rattle.std.specs.Prelude.{◌≡◌, ◌≤◌, All, IfOk};
+ghost use Rattle.case_rules.specs.Case.{case_caps, train_caps, train_pulls, train_rule};
+ghost use Rattle.limit_profile.specs.Profile.{caps};
+ghost use Rattle.run_rules.specs.Steps.{IsPull};
+ghost use Rattle.step_rule.specs.Motion.{cells_of, kmh_of, step_rule_of};
+ghost use Rattle.unit_rules.specs.Zone.{LiesOn};
+
+use limit_profile::Limits;
+use line_tables::Line;
+use std::alloc::Global;
+use step_rule::Rule;
+use stock_tables::Stock;
+use train_mean::pulls;
+use unit_rules::{Bound, Memory, Zone};
+
+/// The pull at each cell of a line on a train whose head is there, in the units of push.
+pub fn pulls_on(alloc: Global, line: &Line, stock: &Stock) -> Result<Vec<i64>, Memory>
+    ensures pulls { IfOk result (λ pulls. pulls.items ≡ train_pulls line.now stock.now) }
+    ensures small { IfOk result (λ pulls. All IsPull pulls.items) }
+{
+    pulls(alloc, line, stock.mass(), stock.length())
+}
+
+/// The step rule of a train on a line, by its pulls there.
+pub fn rule_by(line: &Line, stock: Stock, pulls: Vec<i64>) -> Rule
+    requires pulls { pulls.items ≡ train_pulls line.now stock }
+    requires small { All IsPull pulls.items }
+    ensures rule { step_rule_of result ≡ train_rule line.now stock }
+    ensures pulls { result.pulls ≡ pulls.items }
+    ensures cells { cells_of result ≡ line.now.length }
+    ensures top { kmh_of result ≡ stock.top }
+{
+    // A line has as many cells as a rule may have pulls.
+    let _cells = line.length();
+    let moved = stock.moved_mass();
+    let (push, brake) = stock.into_bands();
+    Rule::new(push, brake, moved, pulls)
+}
+
+/// The step rule of a train on a line.
+pub fn rule_on(alloc: Global, line: &Line, stock: Stock) -> Result<Rule, Memory>
+    ensures rule { IfOk result (λ rule. step_rule_of rule ≡ train_rule line.now stock) }
+    ensures cells { IfOk result (λ rule. cells_of rule ≡ line.now.length) }
+    ensures top { IfOk result (λ rule. kmh_of rule ≡ stock.top) }
+{
+    let pulls = pulls_on(alloc, line, &stock)?;
+    Ok(rule_by(line, stock, pulls))
+}
+
+/// The limits of a train on a line, under restrictions beside the line's own limits, and bounds at
+/// some points.
+pub fn limits_on(
+    alloc: Global,
+    line: &Line,
+    stock: &Stock,
+    restrictions: &[Zone],
+    bounds: &[Bound],
+) -> Result<Limits, Memory>
+    requires restrictions { All (LiesOn line.now.length) restrictions.now }
+    requires bounds { All (λ b. b.at ≤ line.now.length) bounds.now }
+    ensures caps { IfOk result (λ limits.
+        caps limits ≡ case_caps line.now stock.now restrictions.now bounds.now) }
+    ensures length { IfOk result (λ limits. limits.length ≡ line.now.length) }
+    ensures top { IfOk result (λ limits. limits.top ≡ stock.now.top) }
+{
+    let Ok(mut zones) = Vec::from_slice(alloc, line.limits()) else {
+        return Err(Memory);
+    };
+    let Ok(()) = zones.extend_from_slice(restrictions) else {
+        return Err(Memory);
+    };
+    let (length, train, top) = (line.length(), stock.length(), stock.top());
+    Limits::new(alloc, length, train, top, &zones, bounds)
+}
+
+/// The limits of a line for a train that stands at both its ends, without restrictions.
+pub fn standing_limits(alloc: Global, line: &Line, stock: &Stock) -> Result<Limits, Memory>
+    ensures caps { IfOk result (λ limits. caps limits ≡ train_caps line.now stock.now) }
+    ensures length { IfOk result (λ limits. limits.length ≡ line.now.length) }
+    ensures top { IfOk result (λ limits. limits.top ≡ stock.now.top) }
+{
+    let last = line.length();
+    let bounds = [Bound { at: 0, most: 0 }, Bound { at: last, most: 0 }];
+    limits_on(alloc, line, stock, &[], &bounds)
+}
