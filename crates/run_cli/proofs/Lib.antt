@@ -1,6 +1,6 @@
-pub mod EndFacts
+pub mod ServeFacts
 pub mod LoadFacts
-pub mod RiseFacts
 pub mod WalkFacts
 pub mod EnvelopeFacts
 pub mod OnceFacts
+pub mod FormFacts

@@ -1,7 +1,7 @@
 -- The exit status of the process.
 use Rattle.std.specs.Prelude.{ℕ}
 use Rattle.run_cli.specs.declared.status.Status.{Status}
-use Rattle.run_cli.specs.declared.status.Status.TheVariants.{Done, Memory, Usage, ReadFault, WriteFault, Refused, Stalled, TooLong}
+use Rattle.run_cli.specs.declared.status.Status.TheVariants.{Done, Memory, Usage, ReadFault, WriteFault, Refused, Stalled, NotValid, TooLong}
 
 -- the exit status by which each status is told
 abbrev pub exit_of : Status → ℕ
@@ -12,4 +12,5 @@ exit_of ReadFault = 3
 exit_of WriteFault = 4
 exit_of (Refused file place rule) = 5
 exit_of (Stalled point) = 6
+exit_of (NotValid rule point) = 7
 exit_of (TooLong file) = 8

@@ -6,19 +6,16 @@ use Rattle.line_tables.specs.declared.LineFault.TheVariants as line
 use Rattle.stock_tables.specs.declared.StockFault.{StockFault}
 use Rattle.stock_tables.specs.declared.StockFault.TheVariants as stock
 use Rattle.run_cli.specs.declared.status.Status.{Status}
-use Rattle.run_cli.specs.declared.status.Status.TheVariants.{Done, Memory, Usage, ReadFault, WriteFault, Refused, Stalled, TooLong}
+use Rattle.run_cli.specs.declared.status.Status.TheVariants.{Memory, Usage, ReadFault, WriteFault, Refused, NotValid, TooLong}
 
 -- the text of a refusal; the others have none of their own, as a form that ends by a stall has written its text
 abbrev pub status_text : Status → List ℕ
-status_text Done = []
-status_text Memory = []
 status_text Usage = codes "usage\n"
-status_text ReadFault = []
-status_text WriteFault = []
 status_text (Refused file place rule) =
     codes "refused " ++ decimal file ++ codes " " ++ decimal place ++ codes " " ++ decimal rule ++ codes "\n"
-status_text (Stalled point) = []
+status_text (NotValid rule point) = codes "not valid " ++ decimal rule ++ codes " " ++ decimal point ++ codes "\n"
 status_text (TooLong file) = codes "too long " ++ decimal file ++ codes "\n"
+status_text _ = []
 
 -- a line file is file 1; where its line is missing, place and rule are 0
 abbrev pub line_status : LineFault → Status
@@ -36,3 +33,16 @@ stock_status stock.NotToml = Refused 2 0 0
 stock_status (stock.Key key rule) = Refused 2 key rule
 stock_status (stock.Law table k) = Refused 2 k (law_rule table)
 stock_status stock.Memory = Memory
+
+-- what a run has written that ends by a status: its whole text; what stood when a fault of reading or want of memory
+-- stopped it; or a front of its text, at a fault of the sink
+pub data Kind : Type 0 where
+  whole : Kind
+  stopped : Kind
+  cut : Kind
+
+abbrev pub kind_of : Status → Kind
+kind_of ReadFault = stopped
+kind_of Memory = stopped
+kind_of WriteFault = cut
+kind_of _ = whole

@@ -1,42 +1,68 @@
 //! The form `caps`: the cap at each point of a line.
 
-ghost use Rattle.std.specs.Prelude.{◌≡◌, ◌≤◌, ◌∷◌, [], Some, IfOk, IfSome};
+ghost use Rattle.std.specs.Prelude.{◌≡◌, ◌≤◌, ◌+◌, [], Some, IfOk, OnOk, OnErr};
 ghost use Rattle.limit_profile.specs.Profile.{caps};
-ghost use Rattle.run_cli.specs.Answers.{Is, LineFile};
-ghost use Rattle.run_cli.specs.Stops.{StopsAs, StopsBy};
-ghost use Rattle.run_cli.specs.Texts.{caps_text};
+ghost use Rattle.run_cli.specs.Caps.{caps_allows, caps_means};
+ghost use Rattle.run_cli.specs.FileLaws.{alone};
+ghost use Rattle.run_cli.specs.Files.{IsLine};
+ghost use Rattle.run_cli.specs.Forms.{meaning_of};
+ghost use Rattle.run_cli.specs.Loads.{Loads};
+ghost use Rattle.run_rules.specs.Caps.{caps_of};
+ghost use Rattle.run_words.specs.Requests.{caps_view};
 
 use crate::Status;
 use crate::files::load_line;
-use crate::words::Form;
+use crate::form::Form;
+use crate::report::ListReport;
 use limit_profile::Limits;
-use report_text::write_list;
-use run_io::{Shelf, Sink};
+use line_tables::Line;
+use run_io::Shelf;
+use run_words::CapsForm;
 use std::alloc::Global;
-use unit_rules::Memory;
+use std::sync::ledger::Ledger;
+use unit_rules::{Memory, Steps};
 
-// Writes the caps of the line of that name, for a train of that length in metres and top speed in
-// km/h.
-pub(crate) fn run_caps<S: Shelf, K: Sink>(
-    alloc: Global,
-    shelf: &mut S,
-    out: &mut K,
-    name: &str,
-    train: u32,
-    top: u32,
-) -> Result<(), Status>
-    requires train_least { 1 ≤ train }
-    requires train_most { train ≤ 5000 }
-    requires top_least { 1 ≤ top }
-    requires top_most { top ≤ 500 }
-    ensures ends { IfSome (S.files shelf.old) (λ files. StopsAs (LineFile (files name.now) (λ line. Is Status.Done (caps_text line train top))) (S.faults shelf.old) (S.faults shelf.new) (K.written out.old) (K.written out.new) result) }
-    ensures causes { StopsBy (Some (Form.Caps train top)) (name.now ∷ []) (S.files shelf.old) (S.faults shelf.old) (S.faults shelf.new) (K.faults out.old) (K.faults out.new) result }
-{
-    let line = load_line(alloc, shelf, name)?;
-    let limits = Limits::new(alloc, line.length(), train, top, line.limits(), &[])?;
-    let caps = list_caps(alloc, &limits, line.length())?;
-    write_list(out, caps.as_slice())?;
-    Ok(())
+impl<'a> Form for CapsForm<'a> {
+    type Tables = Line;
+
+    type Report = ListReport;
+
+    ghost request = { caps_view };
+
+    ghost are = { λ f told line. IsLine told f.line.now line };
+
+    ghost right = { λ f line r. r.numbers.items ≡
+        caps_of line.length f.train f.top line.limits [] };
+
+    ghost cost = { λ f line. 0 };
+
+    fn load<S: Shelf>(&self, alloc: Global, shelf: &mut S) -> Result<Line, Status> {
+        load_line(alloc, shelf, self.line)
+    }
+
+    fn make<L: Ledger>(
+        &self,
+        alloc: Global,
+        line: Line,
+        _steps: &mut Steps<L>,
+    ) -> Result<ListReport, Memory> {
+        let limits = Limits::new(
+            alloc,
+            line.length(),
+            self.train,
+            self.top,
+            line.limits(),
+            &[],
+        )?;
+        let numbers = list_caps(alloc, &limits, line.length())?;
+        Ok(ListReport { numbers })
+    }
+
+    ghost files_alone = { λ f. alone _ _ _ _ };
+
+    ghost means = { caps_means };
+
+    ghost allows = { caps_allows };
 }
 
 // The caps at all points of a line of that length.

@@ -1,8 +1,12 @@
-//! The files that a form reads.
+//! The files that a form reads: fetched by name, and read by the reader of their kind.
 
-ghost use Rattle.std.specs.Prelude.{◌≡◌, ◌≤◌, ◌⊎◌, ◌∷◌, [], IfOk, IfErr, IfSome};
-ghost use Rattle.run_cli.specs.Answers.{BothFiles, LineFile, StockFile};
-ghost use Rattle.run_cli.specs.Files.{FetchStops, Fetched, IsLineOf, IsStockOf, LoadStops, Never, most_cells};
+ghost use Rattle.std.specs.Prelude.{◌≡◌, ◌≤◌, ◌∷◌, ℕ, List, [], Result, Err, IfOk};
+ghost use Rattle.run_cli.specs.Files.{IsLine, IsStock, IsTable, file_read, line_file, line_reading, stock_file, stock_reading};
+ghost use Rattle.run_cli.specs.Loads.{Fetched, Loads, MayRefuse, file_named};
+ghost use Rattle.run_cli.specs.ReaderLaws.{line_refuses, stock_refuses};
+ghost use Rattle.run_cli.specs.declared.status.Status.{Status as Ending};
+ghost use Rattle.run_cli.specs.declared.status.Status.TheVariants.{Memory as NoMemory};
+ghost use Rattle.unit_rules.specs.Memory.{Gives};
 
 use crate::Status;
 use line_tables::{Line, read_line};
@@ -13,6 +17,72 @@ use stock_tables::{Stock, read_stock};
 // How many bytes a file may have.
 const MOST_BYTES: u64 = 67_108_864;
 
+/// A reader of one kind of file.
+pub(crate) trait Reader {
+    /// What such a file reads as.
+    type Table: Drop;
+
+    /// Its number among the files of all forms.
+    ghost file: { Self → ℕ };
+
+    /// What bytes read as: a table, or the status of the fault in them.
+    ghost reading: { Self → List ℕ → Result Self.Table Ending };
+
+    fn number(&self) -> u32
+        ensures { result ≡ file self.now };
+
+    /// Reads the bytes of a file.
+    fn read(&self, alloc: Global, bytes: &[u8]) -> Result<Self::Table, Status>
+        ensures { Gives (Err NoMemory) (reading self.now bytes.now) result };
+
+    /// A fault is a refusal of the file of that number.
+    ghost refuses: { (r : Self) (bytes : List ℕ) → MayRefuse (file r) (reading r bytes) };
+}
+
+/// The reader of line files.
+#[derive(Drop)]
+pub(crate) struct LineReader;
+
+impl Reader for LineReader {
+    type Table = Line;
+
+    ghost file = { λ r. 1 };
+
+    ghost reading = { λ r. line_reading };
+
+    fn number(&self) -> u32 {
+        1
+    }
+
+    fn read(&self, alloc: Global, bytes: &[u8]) -> Result<Line, Status> {
+        Ok(read_line(alloc, bytes)?)
+    }
+
+    ghost refuses = { λ r. line_refuses };
+}
+
+/// The reader of stock files.
+#[derive(Drop)]
+pub(crate) struct StockReader;
+
+impl Reader for StockReader {
+    type Table = Stock;
+
+    ghost file = { λ r. 2 };
+
+    ghost reading = { λ r. stock_reading };
+
+    fn number(&self) -> u32 {
+        2
+    }
+
+    fn read(&self, alloc: Global, bytes: &[u8]) -> Result<Stock, Status> {
+        Ok(read_stock(alloc, bytes)?)
+    }
+
+    ghost refuses = { λ r. stock_refuses };
+}
+
 // The line and the stock of the files of these names, the line file first.
 pub(crate) fn load_both<S: Shelf>(
     alloc: Global,
@@ -20,12 +90,10 @@ pub(crate) fn load_both<S: Shelf>(
     line_name: &str,
     stock_name: &str,
 ) -> Result<(Line, Stock), Status>
-    ensures line { IfOk result (λ both. IfSome (S.files shelf.old) (λ files. IsLineOf (files line_name.now) both.0)) }
-    ensures stock { IfOk result (λ both. IfSome (S.files shelf.old) (λ files. IsStockOf (files stock_name.now) both.1)) }
-    ensures cells { IfOk result (λ both. both.0.length ≤ most_cells (S.files shelf.old) line_name.now) }
-    ensures stop { IfErr result (LoadStops (S.files shelf.old) (S.faults shelf.old) (S.faults shelf.new) (line_name.now ∷ stock_name.now ∷ []) (λ file. (file ≡ 1) ⊎ (file ≡ 2)) (λ files. BothFiles (files line_name.now) (files stock_name.now) (λ l. Never))) }
-    ensures files { S.files shelf.new ≡ S.files shelf.old }
-    ensures later { S.faults shelf.old ≤ S.faults shelf.new }
+    ensures line { IfOk result (λ both. IsLine (S.told shelf.old).holds line_name.now both.0) }
+    ensures stock { IfOk result (λ both. IsStock (S.told shelf.old).holds stock_name.now both.1) }
+    ensures loads { Loads (line_file line_name.now ∷ stock_file stock_name.now ∷ [])
+        (S.told shelf.old) (S.told shelf.new) result }
 {
     let line = load_line(alloc, shelf, line_name)?;
     let stock = load_stock(alloc, shelf, stock_name)?;
@@ -34,13 +102,13 @@ pub(crate) fn load_both<S: Shelf>(
 
 // The line of the line file of that name.
 pub(crate) fn load_line<S: Shelf>(alloc: Global, shelf: &mut S, name: &str) -> Result<Line, Status>
-    ensures line { IfOk result (λ line. IfSome (S.files shelf.old) (λ files. IsLineOf (files name.now) line)) }
-    ensures stop { IfErr result (LoadStops (S.files shelf.old) (S.faults shelf.old) (S.faults shelf.new) (name.now ∷ []) (λ file. file ≡ 1) (λ files. LineFile (files name.now) Never)) }
-    ensures files { S.files shelf.new ≡ S.files shelf.old }
-    ensures later { S.faults shelf.old ≤ S.faults shelf.new }
+    ensures line { IfOk result (IsLine (S.told shelf.old).holds name.now) }
+    ensures loads { Loads (line_file name.now ∷ []) (S.told shelf.old) (S.told shelf.new) result }
 {
-    let bytes = fetch_file(alloc, shelf, 1, name)?;
-    Ok(read_line(alloc, bytes.as_slice())?)
+    let line = load_file(alloc, shelf, &LineReader, name)?;
+    // A line has as many cells as a line may have.
+    let _cells = line.length();
+    Ok(line)
 }
 
 // The stock of the stock file of that name.
@@ -49,13 +117,25 @@ pub(crate) fn load_stock<S: Shelf>(
     shelf: &mut S,
     name: &str,
 ) -> Result<Stock, Status>
-    ensures stock { IfOk result (λ stock. IfSome (S.files shelf.old) (λ files. IsStockOf (files name.now) stock)) }
-    ensures stop { IfErr result (LoadStops (S.files shelf.old) (S.faults shelf.old) (S.faults shelf.new) (name.now ∷ []) (λ file. file ≡ 2) (λ files. StockFile (files name.now) Never)) }
-    ensures files { S.files shelf.new ≡ S.files shelf.old }
-    ensures later { S.faults shelf.old ≤ S.faults shelf.new }
+    ensures stock { IfOk result (IsStock (S.told shelf.old).holds name.now) }
+    ensures loads { Loads (stock_file name.now ∷ []) (S.told shelf.old) (S.told shelf.new) result }
 {
-    let bytes = fetch_file(alloc, shelf, 2, name)?;
-    Ok(read_stock(alloc, bytes.as_slice())?)
+    load_file(alloc, shelf, &StockReader, name)
+}
+
+// The table of the file of that name.
+fn load_file<R: Reader, S: Shelf>(
+    alloc: Global,
+    shelf: &mut S,
+    reader: &R,
+    name: &str,
+) -> Result<R::Table, Status>
+    ensures table { IfOk result (IsTable (R.reading reader.now) (S.told shelf.old).holds name.now) }
+    ensures loads { Loads (file_read (R.file reader.now) (R.reading reader.now) name.now ∷ [])
+        (S.told shelf.old) (S.told shelf.new) result }
+{
+    let bytes = fetch_file(alloc, shelf, reader.number(), name)?;
+    reader.read(alloc, bytes.as_slice())
 }
 
 // The bytes of a file, which has that number among the files of a form.
@@ -65,10 +145,9 @@ fn fetch_file<S: Shelf>(
     number: u32,
     name: &str,
 ) -> Result<Vec<u8>, Status>
-    ensures ok { IfOk result (λ bytes. Fetched (S.files shelf.old) name.now bytes.items) }
-    ensures stop { IfErr result (FetchStops (S.files shelf.old) (S.faults shelf.old) (S.faults shelf.new) number name.now) }
-    ensures files { S.files shelf.new ≡ S.files shelf.old }
-    ensures later { S.faults shelf.old ≤ S.faults shelf.new }
+    ensures bytes { IfOk result (λ bytes. Fetched (S.told shelf.old).holds name.now bytes.items) }
+    ensures loads { Loads (file_named number name.now ∷ [])
+        (S.told shelf.old) (S.told shelf.new) result }
 {
     let mut bytes = Vec::new(alloc);
     match shelf.fetch(name, MOST_BYTES, &mut bytes) {

@@ -2,35 +2,31 @@
 //! output, and says how it ended.
 #![tactic(auto)]
 
-ghost use Rattle.std.specs.Prelude.{◌≡◌, ◌≤◌, ◌<◌, ◌+◌, ◌⊎◌, None, Some, map, length, string_bytes, IfSome};
-ghost use Rattle.run_cli.specs.Answers.{Answers, AnswersBy, AnswersOnce};
-ghost use Rattle.run_cli.specs.Ends.{EndsAs, EndsWhole, HasCauses, IsQuiet};
-ghost use Rattle.run_cli.specs.Finishes.{FinishesAs};
-ghost use Rattle.run_cli.specs.Stops.{StopsAs, StopsBy};
-ghost use Rattle.run_cli.specs.Files.{most_cells};
-ghost use Rattle.run_cli.specs.Words.{IsForm, files_by, form_of, most_steps, word};
+ghost use Rattle.std.specs.Prelude.{◌≡◌, Some, map, string_bytes};
+ghost use Rattle.run_cli.specs.Ends.{EndsAs, HasCause, IsComplete, TakesInput, TakesSteps, outside};
+ghost use Rattle.run_cli.specs.Forms.{WordsAnswerOnce, meaning_of, meant_by};
+ghost use Rattle.run_cli.specs.Serves.{Serves};
+ghost use Rattle.run_words.specs.Requests.{view};
 
-mod bands;
 mod brakes;
 mod caps;
 mod envelope;
 mod files;
-mod motion;
-mod rises;
+mod form;
+mod report;
+mod rise;
+mod rise_report;
 mod status;
-mod words;
+mod stock;
+mod walks;
 
-use crate::bands::run_stock;
-use crate::brakes::run_brakes;
-use crate::caps::run_caps;
-use crate::envelope::run_envelope;
-use crate::rises::run_rise;
-use crate::words::{Form, read_form};
-use run_io::{Failed, Page, Shelf, Sink, Source};
+use crate::form::{refuse, serve};
+use run_io::{Shelf, Sink, Source};
+use run_words::{Request, read_request};
 pub use status::Status;
 use std::alloc::Global;
 use std::sync::ledger::Ledger;
-use unit_rules::Steps;
+use unit_rules::{Memory, Steps};
 
 /// Runs the words of a command line, which don't hold the program's own name, and says how it ended.
 /// All text goes to `out`; every status but want of memory and the two faults says that it was
@@ -43,89 +39,73 @@ pub fn run<S: Shelf, I: Source, K: Sink, L: Ledger>(
     out: &mut K,
     steps: &mut Steps<L>,
 ) -> Status
-    ensures ends { IfSome (S.files shelf.old) (λ files. EndsAs (Answers (map string_bytes words.now) files) (S.faults shelf.old) (S.faults shelf.new) (K.written out.old) (K.written out.new) result) }
-    ensures causes { HasCauses (map string_bytes words.now) (S.files shelf.old) (S.faults shelf.old) (S.faults shelf.new) (K.faults out.old) (K.faults out.new) result }
-    ensures complete { IsQuiet (S.faults shelf.old) (S.faults shelf.new) → IsQuiet (K.faults out.old) (K.faults out.new)
-        → IfSome (S.files shelf.old) (λ files. (result ≡ Status.Memory) ⊎ EndsWhole (Answers (map string_bytes words.now) files) result (K.written out.old) (K.written out.new)) }
-    ensures steps { steps.new ≤ steps.old + most_steps (form_of (map string_bytes words.now)) (most_cells (S.files shelf.old) (word (map string_bytes words.now) 1)) }
-    // so far no form reads the input
-    ensures unread { I.left input.new ≡ I.left input.old }
+    ensures ends { EndsAs (meant_by (map string_bytes words.now))
+        (outside (S.told shelf.old) (I.told input.old) (K.told out.old))
+        (outside (S.told shelf.new) (I.told input.new) (K.told out.new)) result }
+    ensures causes { HasCause (meant_by (map string_bytes words.now))
+        (outside (S.told shelf.old) (I.told input.old) (K.told out.old))
+        (outside (S.told shelf.new) (I.told input.new) (K.told out.new)) result }
+    ensures complete { IsComplete (meant_by (map string_bytes words.now))
+        (outside (S.told shelf.old) (I.told input.old) (K.told out.old))
+        (outside (S.told shelf.new) (I.told input.new) (K.told out.new)) result }
+    ensures takes { TakesInput (meant_by (map string_bytes words.now))
+        (outside (S.told shelf.old) (I.told input.old) (K.told out.old))
+        (outside (S.told shelf.new) (I.told input.new) (K.told out.new)) result }
+    ensures steps { TakesSteps (meant_by (map string_bytes words.now))
+        (outside (S.told shelf.old) (I.told input.old) (K.told out.old))
+        (outside (S.told shelf.new) (I.told input.new) (K.told out.new)) steps.old steps.new }
 {
-    let stopped = run_words(alloc, words, shelf, out, steps);
-    finish(out, stopped)
+    serve_words(alloc, words, shelf, input, out, steps)
 }
 
-/// The law of answers that follows from the definitions alone: no words over any files have two. So a
-/// run that ends with its whole text ends with the one status and the one text that there can be.
+/// The law of answers that follows from the definitions alone: no words over any files and any input
+/// have two. So a run that ends with its whole text ends with the one status and the one text that
+/// there can be.
 pub fn laws_of_answers()
-    ensures once { AnswersOnce }
+    ensures once { WordsAnswerOnce }
 {}
 
-// Runs the words, and stops with the status of what is in their way.
-fn run_words<S: Shelf, K: Sink, L: Ledger>(
+// Reads the words, and serves what they ask for.
+fn serve_words<S: Shelf, I: Source, K: Sink, L: Ledger>(
     alloc: Global,
     words: &[String],
     shelf: &mut S,
+    input: &mut I,
     out: &mut K,
     steps: &mut Steps<L>,
-) -> Result<(), Status>
-    ensures ends { IfSome (S.files shelf.old) (λ files. StopsAs (Answers (map string_bytes words.now) files) (S.faults shelf.old) (S.faults shelf.new) (K.written out.old) (K.written out.new) result) }
-    ensures causes { StopsBy (form_of (map string_bytes words.now)) (files_by (form_of (map string_bytes words.now)) (map string_bytes words.now)) (S.files shelf.old) (S.faults shelf.old) (S.faults shelf.new) (K.faults out.old) (K.faults out.new) result }
-    ensures steps { steps.new ≤ steps.old + most_steps (form_of (map string_bytes words.now)) (most_cells (S.files shelf.old) (word (map string_bytes words.now) 1)) }
+) -> Status
+    ensures { Serves (meant_by (map string_bytes words.now))
+        (outside (S.told shelf.old) (I.told input.old) (K.told out.old))
+        (outside (S.told shelf.new) (I.told input.new) (K.told out.new))
+        steps.old steps.new result }
 {
-    match read_form(words) {
-        None => Err(Status::Usage),
-        Some(form) => run_form(alloc, form, words, shelf, out, steps),
+    match read_request(alloc, words) {
+        Ok(None) => refuse(Status::Usage, out),
+        Ok(Some(request)) => serve_request(alloc, request, shelf, input, out, steps),
+        Err(Memory) => Status::Memory,
     }
 }
 
-// Runs a form over the files that the words name.
-fn run_form<S: Shelf, K: Sink, L: Ledger>(
+// Serves what is asked for.
+fn serve_request<S: Shelf, I: Source, K: Sink, L: Ledger>(
     alloc: Global,
-    form: Form,
-    words: &[String],
+    request: Request<'_>,
     shelf: &mut S,
+    input: &mut I,
     out: &mut K,
     steps: &mut Steps<L>,
-) -> Result<(), Status>
-    requires { IsForm (length words.now) form }
-    ensures ends { IfSome (S.files shelf.old) (λ files. StopsAs (AnswersBy (Some form) (map string_bytes words.now) files) (S.faults shelf.old) (S.faults shelf.new) (K.written out.old) (K.written out.new) result) }
-    ensures causes { StopsBy (Some form) (files_by (Some form) (map string_bytes words.now)) (S.files shelf.old) (S.faults shelf.old) (S.faults shelf.new) (K.faults out.old) (K.faults out.new) result }
-    ensures steps { steps.new ≤ steps.old + most_steps (Some form) (most_cells (S.files shelf.old) (word (map string_bytes words.now) 1)) }
+) -> Status
+    ensures { Serves (meaning_of (Some (view request.entry)))
+        (outside (S.told shelf.old) (I.told input.old) (K.told out.old))
+        (outside (S.told shelf.new) (I.told input.new) (K.told out.new))
+        steps.old steps.new result }
 {
-    match form {
-        Form::Caps { train, top } => run_caps(alloc, shelf, out, word(words, 1), train, top),
-        Form::Bands => run_stock(alloc, shelf, out, word(words, 1)),
-        Form::Rise { kmh } => {
-            let (line, stock) = (word(words, 1), word(words, 2));
-            run_rise(alloc, shelf, out, line, stock, kmh, steps)
-        }
-        Form::Brakes => run_brakes(alloc, shelf, out, word(words, 1), word(words, 2), steps),
-        Form::Envelope => run_envelope(alloc, shelf, out, word(words, 1), word(words, 2), steps),
-    }
-}
-
-// The word at a place.
-fn word(words: &[String], place: usize) -> &str
-    requires { place < length words.now }
-    ensures { result.now ≡ word (map string_bytes words.now) place }
-{
-    words[place].as_str()
-}
-
-// Writes the text of the status at which a form stopped, and says how the run ends.
-fn finish<K: Sink>(out: &mut K, stopped: Result<(), Status>) -> Status
-    ensures ends { FinishesAs stopped (K.written out.old) (K.written out.new) (K.faults out.old) (K.faults out.new) result }
-    ensures later { K.faults out.old ≤ K.faults out.new }
-{
-    let Err(status) = stopped else {
-        return Status::Done;
-    };
-    let mut page = Page::new();
-    status.put(&mut page);
-    match page.flush(out) {
-        Ok(()) => status,
-        Err(Failed) => Status::WriteFault,
+    match request {
+        Request::Caps(form) => serve(alloc, &form, shelf, input, out, steps),
+        Request::Stock(form) => serve(alloc, &form, shelf, input, out, steps),
+        Request::Rise(form) => serve(alloc, &form, shelf, input, out, steps),
+        Request::Brakes(form) => serve(alloc, &form, shelf, input, out, steps),
+        Request::Envelope(form) => serve(alloc, &form, shelf, input, out, steps),
     }
 }
 

@@ -29,6 +29,8 @@ pub enum Status {
     /// No train that can still keep the limits and stops ahead gets to the point; the text that
     /// says so was written whole.
     Stalled { point: u32 },
+    /// A certificate breaks a rule of the checker: the rule and the point.
+    NotValid { rule: u32, point: u32 },
     /// A file, by its number, has too many bytes.
     TooLong { file: u32 },
 }
@@ -46,6 +48,7 @@ impl Status {
             Status::WriteFault => 4,
             Status::Refused { .. } => 5,
             Status::Stalled { .. } => 6,
+            Status::NotValid { .. } => 7,
             Status::TooLong { .. } => 8,
         }
     }
@@ -56,11 +59,6 @@ impl Status {
         ensures { page.new ≡ status_text self.now }
     {
         match *self {
-            Status::Done
-            | Status::Memory
-            | Status::ReadFault
-            | Status::WriteFault
-            | Status::Stalled { .. } => {}
             Status::Usage => page.put(b"usage\n"),
             Status::Refused { file, place, rule } => {
                 page.put(b"refused ");
@@ -71,11 +69,19 @@ impl Status {
                 page.put_number(rule as u64);
                 page.put(b"\n");
             }
+            Status::NotValid { rule, point } => {
+                page.put(b"not valid ");
+                page.put_number(rule as u64);
+                page.put(b" ");
+                page.put_number(point as u64);
+                page.put(b"\n");
+            }
             Status::TooLong { file } => {
                 page.put(b"too long ");
                 page.put_number(file as u64);
                 page.put(b"\n");
             }
+            _ => {}
         }
     }
 }

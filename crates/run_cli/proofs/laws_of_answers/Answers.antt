@@ -1,4 +1,4 @@
-use Rattle.run_cli.proofs.OnceFacts.{answers_once}
+use Rattle.run_cli.proofs.FormFacts.{answers_once}
 use Rattle.run_cli.proofs.laws_of_answers.Goals as goal
 
 pub returns : goal.returns

@@ -1,0 +1,16 @@
+use Rattle.run_cli.proofs.serve_request.Goals as goal
+
+pub returns-in-Caps : goal.returns-in-Caps
+returns-in-Caps g c = rw c.in-Caps.is c.serve.ensures
+
+pub returns-in-Stock : goal.returns-in-Stock
+returns-in-Stock g c = rw c.in-Stock.is c.serve-in-Stock.ensures
+
+pub returns-in-Rise : goal.returns-in-Rise
+returns-in-Rise g c = rw c.in-Rise.is c.serve-in-Rise.ensures
+
+pub returns-in-Brakes : goal.returns-in-Brakes
+returns-in-Brakes g c = rw c.in-Brakes.is c.serve-in-Brakes.ensures
+
+pub returns-in-Envelope : goal.returns-in-Envelope
+returns-in-Envelope g c = rw c.in-Envelope.is c.serve-in-Envelope.ensures

@@ -1,0 +1,67 @@
+-- Forms that read files alone, and what answers by the tables of these files.
+use Rattle.std.specs.Prelude.{ℕ, ◌≡◌, ◌≤◌, ◌⊎◌, false, List, [], ◌∷◌, Option, Some}
+use Rattle.line_tables.specs.Table.{LineTable}
+use Rattle.stock_tables.specs.Stock.{StockTable}
+use Rattle.run_io.specs.Fetches.{Files}
+use Rattle.run_cli.specs.Files.{File, line_file, line_reading, most_cells, stock_file, stock_reading, table_in}
+use Rattle.run_cli.specs.Meanings.{Answer, Is, Meaning}
+use Rattle.run_cli.specs.Statuses.{status_text}
+use Rattle.run_cli.specs.declared.status.Status.{Status}
+use Rattle.run_cli.specs.declared.status.Status.TheVariants.{Done, Stalled, Usage}
+
+-- at most so many steps
+abbrev pub AtMost : (Option Files → ℕ) → Option Files → ℕ → Type 0
+AtMost most told n = n ≤ most told
+
+-- a form that reads these files and no input, and that has written nothing where it is stopped
+abbrev pub file_form : List File → (Files → Answer) → (Status → Type 0) → (Option Files → ℕ → Type 0)
+    → Meaning
+file_form reads answers may_end steps = record {
+  reads = λ told. reads;
+  reads_input = false;
+  answers = λ files input. answers files;
+  so_far = λ files taken s text. text ≡ [];
+  may_end = may_end;
+  steps = λ told taken n. steps told n;
+}
+
+-- words that are no form
+abbrev pub no_form : Meaning
+no_form = file_form [] (λ files. Is Usage (status_text Usage)) (λ s. s ≡ Usage) (AtMost (λ told. 0))
+
+-- the status at the end of a form that can end in one way only
+abbrev pub IsDone : Status → Type 0
+IsDone s = s ≡ Done
+
+-- the statuses at the end of a form that runs a train
+abbrev pub MayStall : Status → Type 0
+MayStall s = (s ≡ Done) ⊎ ((point : ℕ) × (s ≡ Stalled point))
+
+-- what answers by the line of a file that is accepted
+abbrev pub ByLine : List ℕ → (LineTable → Answer) → Files → Answer
+ByLine name next files s t =
+    (table : LineTable) × (table_in line_reading (files name) ≡ Some table) × next table s t
+
+-- what answers by the stock of a file that is accepted
+abbrev pub ByStock : List ℕ → (StockTable → Answer) → Files → Answer
+ByStock name next files s t =
+    (table : StockTable) × (table_in stock_reading (files name) ≡ Some table) × next table s t
+
+-- what answers by a line and a stock
+abbrev pub ByBoth : List ℕ → List ℕ → (LineTable → StockTable → Answer) → Files → Answer
+ByBoth line_name stock_name next files = ByLine line_name (λ line. ByStock stock_name (next line) files) files
+
+-- a form of a line, which takes no steps
+abbrev pub line_form : List ℕ → (LineTable → Answer) → Meaning
+line_form name answers = file_form (line_file name ∷ []) (ByLine name answers) IsDone (AtMost (λ told. 0))
+
+-- a form of a stock, which takes no steps
+abbrev pub stock_form : List ℕ → (StockTable → Answer) → Meaning
+stock_form name answers = file_form (stock_file name ∷ []) (ByStock name answers) IsDone (AtMost (λ told. 0))
+
+-- a form of a train on a line, which takes at most so many steps by the number of cells
+abbrev pub train_form : List ℕ → List ℕ → (LineTable → StockTable → Answer) → (Status → Type 0) → (ℕ → ℕ)
+    → Meaning
+train_form line_name stock_name answers may_end steps =
+    file_form (line_file line_name ∷ stock_file stock_name ∷ []) (ByBoth line_name stock_name answers)
+    may_end (AtMost (λ told. steps (most_cells told line_name)))

@@ -1,0 +1,49 @@
+-- That the reports of forms that read files alone are what these forms mean, and that their steps are allowed.
+use Rattle.std.proofs.Common.{◌≡◌, ◌≤◌, ℕ, List, Option, Some, None, refl, arith}
+use Rattle.line_tables.specs.Table.{LineTable}
+use Rattle.run_io.specs.Fetches.{Files}
+use Rattle.stock_tables.specs.Stock.{StockTable}
+use Rattle.run_cli.specs.FileForms.{AtMost, file_form, line_form, stock_form, train_form}
+use Rattle.run_cli.specs.Files.{AreTables, File, IsLine, IsStock, most_cells}
+use Rattle.run_cli.specs.Meanings.{Answer, Is, IsFileForm}
+use Rattle.run_cli.specs.Serves.{IsMeant}
+use Rattle.run_cli.specs.Statuses.{kind_of}
+use Rattle.run_cli.specs.Statuses.Kind.{whole}
+use Rattle.run_cli.specs.declared.status.Status.{Status}
+use Rattle.run_cli.specs.declared.status.Status.TheVariants.{Done}
+
+-- a form that reads files alone has written nothing where it is stopped, and may do without a step
+pub alone : (reads : List File) (answers : Files → Answer) (may_end : Status → Type 0) (most : Option Files → ℕ)
+    → IsFileForm (file_form reads answers may_end (AtMost most))
+alone reads answers may_end most = record {
+  no_input = refl;
+  quiet = record { silent = λ files s is. refl; idle = λ told. omega arith };
+}
+
+-- what answers by a line, by a stock, or by both is meant where these were read
+pub line_meant : (name : List ℕ) (answers : LineTable → Answer) (told : Option Files) (line : LineTable) (t : List ℕ)
+    → IsLine told name line → answers line Done t → IsMeant (line_form name answers) told Done t
+line_meant name answers None line t at h = record { answers = tt; is_whole = refl; may_end = refl }
+line_meant name answers (Some files) line t at h = record { answers = (line, at.same, h); is_whole = refl; may_end = refl }
+
+pub stock_meant : (name : List ℕ) (answers : StockTable → Answer) (told : Option Files) (stock : StockTable) (t : List ℕ)
+    → IsStock told name stock → answers stock Done t → IsMeant (stock_form name answers) told Done t
+stock_meant name answers None stock t at h = record { answers = tt; is_whole = refl; may_end = refl }
+stock_meant name answers (Some files) stock t at h = record { answers = (stock, at, h); is_whole = refl; may_end = refl }
+
+pub train_meant : (line_name stock_name : List ℕ) (answers : LineTable → StockTable → Answer) (may_end : Status → Type 0) (steps : ℕ → ℕ)
+    (told : Option Files) (both : LineTable × StockTable) (s : Status) (t : List ℕ) → AreTables line_name stock_name told both
+    → answers both.0 both.1 s t → kind_of s ≡ whole → may_end s → IsMeant (train_form line_name stock_name answers may_end steps) told s t
+train_meant line_name stock_name answers may_end steps None both s t at h is ends = record { answers = tt; is_whole = is; may_end = ends }
+train_meant line_name stock_name answers may_end steps (Some files) both s t at h is ends =
+    record { answers = (both.0, at.0.same, (both.1, at.1, h)); is_whole = is; may_end = ends }
+
+-- a line that was read has no more cells than the line of its file, so no more steps are taken than by these
+pub train_allows : (steps : ℕ → ℕ) (rises : (a b : ℕ) → a ≤ b → steps a ≤ steps b) (told : Option Files) (name : List ℕ) (line : LineTable)
+    → IsLine told name line → steps line.length ≤ steps (most_cells told name)
+train_allows steps rises None name line at = rises line.length 500000 at.short
+train_allows steps rises (Some files) name line at = rw at.same (rises line.length line.length (omega arith))
+
+-- a status and a text are the ones that answer
+pub is_done : (t u : List ℕ) → t ≡ u → Is Done u Done t
+is_done t u e = record { status_is = refl; text_is = e }

@@ -1,0 +1,41 @@
+-- How the loading of files ends.
+use Rattle.std.specs.Prelude.{ℕ, ◌≡◌, ◌≤◌, ◌⊎◌, List, length, Option, None, Some, Result, IfOk, IfErr, IfSome}
+use Rattle.run_io.specs.Fetches.{Files}
+use Rattle.run_io.specs.Told.{Rose, Told}
+use Rattle.run_cli.specs.Files.{Blames, File, IsRefusal, most_bytes, refusal}
+use Rattle.run_cli.specs.declared.status.Status.{Status}
+use Rattle.run_cli.specs.declared.status.Status.TheVariants.{Memory, ReadFault}
+
+-- the shelf failed, or, where files are told, one of them is the first that is in the way
+abbrev pub IsReason : List File → Told Files → Told Files → Status → Type 0
+IsReason reads old new s =
+    ((s ≡ ReadFault) × Rose old new) ⊎ IfSome old.holds (λ files. refusal files reads ≡ Some s)
+
+-- a file is to blame, and there is a reason
+pub record IsRefused (reads : List File) (old new : Told Files) (s : Status) : Type 0 where
+  pub blames : Blames old new reads s
+  pub reason : IsReason reads old new s
+
+-- why files are not loaded
+abbrev pub LoadStops : List File → Told Files → Told Files → Status → Type 0
+LoadStops reads old new s = (s ≡ Memory) ⊎ IsRefused reads old new s
+
+-- the files were loaded, and nothing is in the way of any; or they were not, and the status says why
+pub record Loads {T : Type 0} (reads : List File) (old new : Told Files) (result : Result T Status) : Type 0 where
+  pub same : new.holds ≡ old.holds
+  pub later : old.faults ≤ new.faults
+  pub loaded : IfOk result (λ t. IfSome old.holds (λ files. refusal files reads ≡ None))
+  pub stopped : IfErr result (LoadStops reads old new)
+
+-- not too many bytes, and where files are told those of the file of that name
+pub record Fetched (told : Option Files) (name bytes : List ℕ) : Type 0 where
+  pub short : length bytes ≤ most_bytes
+  pub same : IfSome told (λ files. files name ≡ Some bytes)
+
+-- a file of which nothing but its length is asked
+abbrev pub file_named : ℕ → List ℕ → File
+file_named number name = record { number = number; name = name; judge = λ files bytes. None }
+
+-- a reader's fault is want of memory, or a refusal of the file of that number
+abbrev pub MayRefuse : {T : Type 0} → ℕ → Result T Status → Type 0
+MayRefuse number reading = IfErr reading (λ s. (s ≡ Memory) ⊎ IsRefusal number s)

@@ -1,0 +1,43 @@
+-- How a form is served.
+use Rattle.std.specs.Prelude.{ℕ, ◌≡◌, ◌≤◌, ◌+◌, ◌⊎◌, List, [], Option, IfSome}
+use Rattle.run_io.specs.Fetches.{Files}
+use Rattle.run_io.specs.Told.{Rose, Told, Writes, WritesFront}
+use Rattle.run_cli.specs.Ends.{EndsAs, EndsShort, EndsWhole, HasCause, IsComplete, Outside, TakesInput, TakesSteps}
+use Rattle.run_cli.specs.Meanings.{Meaning}
+use Rattle.run_cli.specs.Statuses.{kind_of, status_text}
+use Rattle.run_cli.specs.Statuses.Kind.{whole}
+use Rattle.run_cli.specs.declared.status.Status.{Status}
+use Rattle.run_cli.specs.declared.status.Status.TheVariants.{Memory, WriteFault}
+
+-- all that the top call says of a run, by what its words mean
+pub record Serves (m : Meaning) (old new : Outside) (before now : ℕ) (s : Status) : Type 0 where
+  pub ends : EndsAs m old new s
+  pub causes : HasCause m old new s
+  pub complete : IsComplete m old new s
+  pub takes : TakesInput m old new s
+  pub steps : TakesSteps m old new before now
+
+-- a status and a text are among those that a form means which reads files alone
+pub record IsMeant (m : Meaning) (told : Option Files) (s : Status) (t : List ℕ) : Type 0 where
+  pub answers : IfSome told (λ files. m.answers files [] s t)
+  pub is_whole : kind_of s ≡ whole
+  pub may_end : m.may_end s
+
+-- how the work over tables may end: for want of memory, by a fault of the sink, or with a whole text
+abbrev pub WorkEnds : Meaning → Option Files → Told (List ℕ) → Told (List ℕ) → Status → Type 0
+WorkEnds m told old new s =
+    ((s ≡ Memory) × Writes old new [])
+    ⊎ ((s ≡ WriteFault) × Rose old new × IfSome told (λ files. EndsShort (m.answers files []) old new))
+    ⊎ ((kind_of s ≡ whole) × m.may_end s × IfSome told (λ files. EndsWhole (m.answers files []) s old new))
+
+pub record Works (m : Meaning) (told : Option Files) (old new : Told (List ℕ)) (before now : ℕ) (s : Status) : Type 0 where
+  pub ends : WorkEnds m told old new s
+  pub cost : ℕ
+  pub allowed : m.steps told [] cost
+  pub steps : now ≤ before + cost
+
+-- the own text of a status was written, or the sink failed at a front of it
+abbrev pub Finishes : Status → Told (List ℕ) → Told (List ℕ) → Status → Type 0
+Finishes status old new s =
+    ((s ≡ status) × Writes old new (status_text status))
+    ⊎ ((s ≡ WriteFault) × WritesFront old new (status_text status) × Rose old new)

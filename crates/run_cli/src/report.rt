@@ -1,0 +1,88 @@
+//! The reports of the forms.
+
+ghost use Rattle.std.specs.Prelude.{◌≡◌, ◌≤◌, ◌+◌, ◌*◌, OnOk, OnErr};
+ghost use Rattle.report_text.specs.Texts.{bands_text, list_text};
+ghost use Rattle.run_cli.specs.Envelope.{envelope_status, envelope_text};
+ghost use Rattle.run_cli.specs.declared.status.Status.TheVariants.{Done};
+
+use crate::Status;
+use crate::form::Report;
+use report_text::{write_bands, write_list, write_reach};
+use run_io::{Failed, Sink};
+use std::sync::ledger::Ledger;
+use stock_tables::Stock;
+use unit_rules::{Reach, Steps};
+
+// A list by point.
+#[derive(Drop)]
+pub(crate) struct ListReport {
+    pub(crate) numbers: Vec<u32>,
+}
+
+impl Report for ListReport {
+    ghost text = { λ r. list_text r.numbers.items };
+
+    ghost ending = { λ r. Done };
+
+    ghost work = { λ r. 0 };
+
+    fn write<K: Sink, L: Ledger>(&self, out: &mut K, _steps: &mut Steps<L>) -> Result<(), Failed> {
+        write_list(out, self.numbers.as_slice())
+    }
+
+    fn status(&self) -> Status {
+        Status::Done
+    }
+}
+
+// The tables of a train.
+#[derive(Drop)]
+pub(crate) struct StockReport {
+    pub(crate) stock: Stock,
+}
+
+impl Report for StockReport {
+    ghost text = { λ r. bands_text r.stock };
+
+    ghost ending = { λ r. Done };
+
+    ghost work = { λ r. 0 };
+
+    fn write<K: Sink, L: Ledger>(&self, out: &mut K, _steps: &mut Steps<L>) -> Result<(), Failed> {
+        write_bands(out, &self.stock)
+    }
+
+    fn status(&self) -> Status {
+        Status::Done
+    }
+}
+
+// How far a train gets, and its greatest squared speeds by point, in (0.01 km/h)²; those from a
+// stalled point on mean nothing.
+#[derive(Drop)]
+pub(crate) struct EnvelopeReport {
+    pub(crate) reach: Reach,
+    pub(crate) speeds: Vec<u32>,
+}
+
+impl Report for EnvelopeReport {
+    ghost text = { λ r. envelope_text r.speeds.items r.reach };
+
+    ghost ending = { λ r. envelope_status r.reach };
+
+    ghost work = { λ r. 0 };
+
+    fn write<K: Sink, L: Ledger>(&self, out: &mut K, _steps: &mut Steps<L>) -> Result<(), Failed> {
+        match self.reach {
+            Reach::Whole => write_list(out, self.speeds.as_slice()),
+            Reach::Stalled { .. } => write_reach(out, self.reach),
+        }
+    }
+
+    fn status(&self) -> Status {
+        match self.reach {
+            Reach::Whole => Status::Done,
+            Reach::Stalled { k } => Status::Stalled { point: k },
+        }
+    }
+}

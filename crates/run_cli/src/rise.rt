@@ -1,0 +1,154 @@
+//! The form `rise`: what the step rule makes of a speed at each cell of a line.
+
+ghost use Rattle.std.specs.Prelude.{◌≡◌, ◌≤◌, ◌<◌, ◌+◌, ◌*◌, ◌++◌, ◌∷◌, [], min, Some, OnOk, OnErr, IfOk};
+ghost use Rattle.run_cli.specs.FileLaws.{alone};
+ghost use Rattle.run_cli.specs.Files.{AreTables, IsLine, IsStock};
+ghost use Rattle.run_cli.specs.Forms.{meaning_of};
+ghost use Rattle.run_cli.specs.Loads.{Loads};
+ghost use Rattle.run_cli.specs.Rise.{rise_allows, rise_line, rise_means, rise_text, shown_rise};
+ghost use Rattle.run_cli.specs.declared.status.Status.TheVariants.{Done};
+ghost use Rattle.run_io.specs.Pages.{Carries};
+ghost use Rattle.run_io.specs.Texts.{lines_below};
+ghost use Rattle.run_io.specs.Told.{HasCause, Writes, WritesFront};
+ghost use Rattle.run_rules.specs.Speeds.{squared};
+ghost use Rattle.run_words.specs.Requests.{rise_view};
+ghost use Rattle.step_rule.specs.Motion.{cells_of, most_of, step_rule_of};
+
+use crate::Status;
+use crate::files::load_both;
+use crate::form::{Form, Report};
+use crate::rise_report::RiseReport;
+use case_rules::{pulls_on, rule_by};
+use line_tables::Line;
+use report_text::put_numbers;
+use run_io::{Failed, Page, Shelf, Sink};
+use run_rules::squared;
+use run_words::RiseForm;
+use std::alloc::Global;
+use std::sync::ledger::Ledger;
+use step_rule::Rule;
+use stock_tables::Stock;
+use unit_rules::{Memory, Steps};
+
+impl Report for RiseReport {
+    ghost text = { shown_rise };
+
+    ghost ending = { λ r. Done };
+
+    ghost work = { λ r. 2 * cells_of r.rule };
+
+    fn write<K: Sink, L: Ledger>(&self, out: &mut K, steps: &mut Steps<L>) -> Result<(), Failed> {
+        write_rise(out, &self.rule, self.pulls.as_slice(), self.before, steps)
+    }
+
+    fn status(&self) -> Status {
+        Status::Done
+    }
+}
+
+impl<'a> Form for RiseForm<'a> {
+    type Tables = (Line, Stock);
+
+    type Report = RiseReport;
+
+    ghost request = { rise_view };
+
+    ghost are = { λ f. AreTables f.line.now f.stock.now };
+
+    ghost right = { λ f both r. shown_rise r ≡ rise_text both.0 both.1 f.kmh };
+
+    ghost cost = { λ f both. 2 * both.0.length };
+
+    fn load<S: Shelf>(&self, alloc: Global, shelf: &mut S) -> Result<(Line, Stock), Status> {
+        load_both(alloc, shelf, self.line, self.stock)
+    }
+
+    fn make<L: Ledger>(
+        &self,
+        alloc: Global,
+        both: (Line, Stock),
+        _steps: &mut Steps<L>,
+    ) -> Result<RiseReport, Memory> {
+        let (line, stock) = both;
+        rise_from(alloc, &line, stock, self.kmh)
+    }
+
+    ghost files_alone = { λ f. alone _ _ _ _ };
+
+    ghost means = { rise_means };
+
+    ghost allows = { rise_allows };
+}
+
+// What the form shows of a stock on a line, from so many km/h, or from its top speed where that is
+// less.
+fn rise_from(alloc: Global, line: &Line, stock: Stock, kmh: u32) -> Result<RiseReport, Memory>
+    requires { kmh ≤ 500 }
+    ensures shown { IfOk result (λ r. shown_rise r ≡ rise_text line.now stock kmh) }
+    ensures cells { IfOk result (λ r. cells_of r.rule ≡ line.now.length) }
+{
+    let before = squared(stock.top()).min(squared(kmh));
+    let pulls = pulls_on(alloc, line, &stock)?;
+    // The rule keeps its pulls to itself, so what is shown is a copy of them.
+    let Ok(shown) = Vec::from_slice(alloc, pulls.as_slice()) else {
+        return Err(Memory);
+    };
+    Ok(RiseReport {
+        rule: rule_by(line, stock, pulls),
+        pulls: shown,
+        before,
+    })
+}
+
+// Writes a line for each cell, from the squared speed `before` it.
+fn write_rise<K: Sink, L: Ledger>(
+    out: &mut K,
+    rule: &Rule,
+    pulls: &[i64],
+    before: u32,
+    steps: &mut Steps<L>,
+) -> Result<(), Failed>
+    requires pulls { pulls.now ≡ rule.now.pulls }
+    requires in_range { before ≤ most_of rule.now }
+    ensures ok { OnOk result (Writes (K.told out.old) (K.told out.new) (lines_below
+        (rise_line (step_rule_of rule.now) pulls.now before) (cells_of rule.now))) }
+    ensures failed { OnErr result (WritesFront (K.told out.old) (K.told out.new) (lines_below
+        (rise_line (step_rule_of rule.now) pulls.now before) (cells_of rule.now))) }
+    ensures cause { HasCause (K.told out.old) (K.told out.new) result }
+    ensures steps { steps.new ≤ steps.old + 2 * cells_of rule.now }
+{
+    let mut page = Page::new();
+    for cell in 0..rule.cells() {
+        put_rise(&mut page, out, rule, pulls, before, cell, steps)?;
+    }
+    page.flush(out)
+}
+
+// Puts the line of a cell, from the squared speed `before` it.
+fn put_rise<K: Sink, L: Ledger>(
+    page: &mut Page,
+    out: &mut K,
+    rule: &Rule,
+    pulls: &[i64],
+    before: u32,
+    cell: u32,
+    steps: &mut Steps<L>,
+) -> Result<(), Failed>
+    requires pulls { pulls.now ≡ rule.now.pulls }
+    requires in_range { before ≤ most_of rule.now }
+    requires cell { cell < cells_of rule.now }
+    ensures ok { OnOk result (Carries (K.told out.old) page.old (K.told out.new) page.new
+        (rise_line (step_rule_of rule.now) pulls.now before cell)) }
+    ensures failed { OnErr result (WritesFront (K.told out.old) (K.told out.new)
+        (page.old ++ rise_line (step_rule_of rule.now) pulls.now before cell)) }
+    ensures cause { HasCause (K.told out.old) (K.told out.new) result }
+    ensures steps { steps.new ≡ steps.old + 2 }
+{
+    let numbers = [
+        cell as i64,
+        pulls[cell as usize],
+        rule.up(cell, before, steps),
+        rule.low(cell, before, steps),
+    ];
+    put_numbers(page, out, &numbers)
+}
