@@ -29,6 +29,9 @@ them a table may have
             with that key, or after the last line; `no KEY` takes the line out
     wants   how the outputs of the rows are read: "output" (which is meant without it) or "begins"
 
+and tables `[[words]]`, each with `name` and `rows` of words that one answer is wanted for, beside the
+keys of a case.
+
 The program is started in a new folder that holds those files alone.
 """
 
@@ -147,6 +150,10 @@ def cases_of(path):
     for table in tables.get("table", []):
         for row in table["rows"]:
             yield checked(case_of(table, *row))
+    for table in tables.get("words", []):
+        rows = table.pop("rows")
+        for row in rows:
+            yield checked({**table, "name": f"{table['name']}: {row}", "words": row})
 
 
 def run(case, folder):
