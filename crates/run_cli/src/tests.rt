@@ -1,10 +1,11 @@
 //! What no clause says: that a run succeeds where memory is found, and what it writes where a call
 //! of the outside fails.
 
-ghost use Rattle.std.specs.Prelude.{◌≡◌};
+ghost use Rattle.std.specs.Prelude.{◌≡◌, ◌<◌};
 
 use super::*;
 use run_io::{MemShelf, MemSink, MemSource};
+use std::alloc::AllocError;
 use std::marker::Brand;
 use std::sync::ledger::Blank;
 use std::test::Fail;
@@ -105,42 +106,85 @@ const CASES: [Case; 18] = [
 ];
 
 // The files that the words of the cases name.
-fn shelf_with(alloc: Global, failing: &[u64]) -> Result<MemShelf, Fail> {
-    let mut files = Vec::new(alloc);
-    for (name, bytes) in [
-        ("lim.csv", LIM),
-        ("ten.csv", TEN),
-        ("hill.csv", HILL),
-        ("short.csv", b"line,Short,1\n"),
-        ("toy.toml", TOY),
-    ] {
-        files.push((
-            String::from_str(alloc, name)?,
-            Vec::from_slice(alloc, bytes)?,
-        ))?;
+const FILES: [(&str, &[u8]); 5] = [
+    ("lim.csv", LIM),
+    ("ten.csv", TEN),
+    ("hill.csv", HILL),
+    ("short.csv", b"line,Short,1\n"),
+    ("toy.toml", TOY),
+];
+
+fn file_at(alloc: Global, place: usize) -> Result<(String, Vec<u8>), AllocError>
+    requires { place < 5 }
+{
+    let (name, bytes) = FILES[place];
+    let name = String::from_str(alloc, name)?;
+    match Vec::from_slice(alloc, bytes) {
+        Ok(bytes) => Ok((name, bytes)),
+        Err(error) => Err(error),
     }
-    Ok(MemShelf::new(files, Vec::from_slice(alloc, failing)?))
+}
+
+fn all_files(alloc: Global) -> Result<Vec<(String, Vec<u8>)>, AllocError> {
+    let mut files = Vec::new(alloc);
+    for place in 0..5 {
+        files.push(file_at(alloc, place)?)?;
+    }
+    Ok(files)
+}
+
+fn shelf_with(alloc: Global, failing: &[u64]) -> Result<MemShelf, AllocError> {
+    let files = all_files(alloc)?;
+    match Vec::from_slice(alloc, failing) {
+        Ok(failing) => Ok(MemShelf::new(files, failing)),
+        Err(error) => Err(error),
+    }
+}
+
+fn words_of(alloc: Global, given: &str) -> Result<Vec<String>, AllocError> {
+    let mut words = Vec::new(alloc);
+    for word in given.split(' ') {
+        words.push(String::from_str(alloc, word)?)?;
+    }
+    Ok(words)
+}
+
+// A sink of so much room, that takes so many bytes at a call.
+fn sink_with(alloc: Global, room: usize, most: usize, failing: &[u64]) -> Option<MemSink> {
+    match Vec::from_slice(alloc, failing) {
+        Ok(failing) => MemSink::new(alloc, room, most.max(1), failing).ok(),
+        Err(_) => None,
+    }
+}
+
+// Whether words end so over a shelf and a sink.
+fn ends_over(
+    alloc: Global,
+    words: &[String],
+    shelf: &mut MemShelf,
+    out: &mut MemSink,
+    wanted: Status,
+    text: &[u8],
+) -> bool {
+    let status = run_counted::<Brand>(alloc, words, shelf, out, Blank::new(1));
+    status == wanted && out.written() == text
+}
+
+// Whether a case ends with its status and its text.
+fn ends_so(alloc: Global, case: &Case) -> Result<bool, AllocError> {
+    let (given, (shelf_fails, room, most, sink_fails), wanted, text) = *case;
+    let words = words_of(alloc, given)?;
+    let mut shelf = shelf_with(alloc, shelf_fails)?;
+    match sink_with(alloc, room, most, sink_fails) {
+        Some(mut out) => Ok(ends_over(alloc, &words, &mut shelf, &mut out, wanted, text)),
+        None => Ok(false),
+    }
 }
 
 #[test]
 fn statuses_and_texts(rt: HostRuntime) -> Result<(), Fail> {
-    let alloc = rt.alloc();
-    for (given, (shelf_fails, room, most, sink_fails), wanted, text) in CASES {
-        let mut shelf = shelf_with(alloc, shelf_fails)?;
-        let mut words = Vec::new(alloc);
-        for word in given.split(' ') {
-            words.push(String::from_str(alloc, word)?)?;
-        }
-        let failing = Vec::from_slice(alloc, sink_fails)?;
-        let out = MemSink::new(alloc, room, most.max(1), failing);
-        assert!(rt; out.is_ok());
-        let Ok(mut out) = out else {
-            return Ok(());
-        };
-        let words = words.as_slice();
-        let status = run_counted::<Brand>(alloc, words, &mut shelf, &mut out, Blank::new(1));
-        assert_eq!(rt; status, wanted);
-        assert_eq!(rt; out.written(), text);
+    for place in 0..CASES.len() {
+        assert!(rt; ends_so(rt.alloc(), &CASES[place])?, "case {place}");
     }
     Ok(())
 }
