@@ -1,43 +1,79 @@
 #!/usr/bin/env python3
-"""Measures how the cost of `caps`, `brakes` and `envelope` grows with the length of the line.
+"""Measures the proved program against a plain one that does the same, and how its cost grows.
 
-    python3 bench/run.py
+    python3 bench/run.py [--turns N] [--only TEXT] [--program PATH]
 
 README.md says what is measured and how to read it. It is no test: it expects no times.
 """
 
+import argparse
+import os
 import pathlib
+import platform
+import shutil
 import subprocess
 import sys
 import tempfile
-import time
 from collections.abc import Callable, Iterator, Sequence
 from dataclasses import dataclass
 
 TOP = pathlib.Path(__file__).resolve().parent.parent
 PROGRAM = TOP / "crates" / "rtime" / "out" / "rtime"
+TWIN = TOP / "bench" / "twin"
 TRAIN = TOP / "examples" / "lauter" / "railcar.toml"
 TRAIN_LENGTH, TRAIN_TOP = "56", "140"  # m and km/h, as TRAIN has them
+TRAIN_SPEED = "60"  # km/h, of which `rise` is asked
 
-LENGTHS = (5000, 50000, 500000)  # m
+LONGEST = 500000  # m
 LIMITS = (60, 100, 40, 120, 80)  # km/h, by turns
-LIMITS_COUNT = 20
 GRADIENTS = (0, 40, 85, -30, 120, -75, 15, -110, 60, -20)  # tenths of a per mille, by turns
 GRADIENT_METRES = 500
-SECONDS = 2  # for which each is run again and again
+STOP_METRES, STOP_LENGTH, STOP_KMH = 250, 20, 5  # of the stopping line: m, m and km/h
+
+TURNS = 9
+SECONDS = 1  # for which a short case is run again and again, past its turns
+PIPE = 4096  # bytes of the output that a program can write before they are taken
+
+NAMES = ("rtime", "twin")
+
+Zone = tuple[int, int, int]
 
 
-def line_text(length: int) -> str:
-    """A line file: a limit on each second stretch of equal ones, and gradients all along."""
+# Lines
+
+
+def spread(length: int, count: int) -> list[Zone]:
+    """So many limits, on each second stretch of equal ones."""
+    places = [number * length // (2 * count) for number in range(2 * count + 1)]
+    zones = zip(places[1::2], places[2::2])
+    return [(start, end, LIMITS[turn % len(LIMITS)]) for turn, (start, end) in enumerate(zones)]
+
+
+def stops(length: int) -> list[Zone]:
+    """A limit for each place at which the train all but stops."""
+    starts = range(STOP_METRES, length - STOP_METRES, STOP_METRES)
+    return [(start, start + STOP_LENGTH, STOP_KMH) for start in starts]
+
+
+def hills(length: int) -> list[Zone]:
+    """Gradients all along."""
+    starts = range(0, length, GRADIENT_METRES)
+    ends = [min(start + GRADIENT_METRES, length) for start in starts]
+    return [
+        (start, end, GRADIENTS[turn % len(GRADIENTS)])
+        for turn, (start, end) in enumerate(zip(starts, ends))
+    ]
+
+
+def line_text(length: int, limits: Sequence[Zone], gradients: Sequence[Zone]) -> str:
+    """The line file of a line of so many metres."""
     records = [f"line,Made up,{length}"]
-    for number, start in enumerate(range(0, length, GRADIENT_METRES)):
-        slope = GRADIENTS[number % len(GRADIENTS)]
-        records.append(f"gradient,{start},{min(start + GRADIENT_METRES, length)},{slope}")
-    for number in range(LIMITS_COUNT):
-        start = (2 * number + 1) * length // (2 * LIMITS_COUNT)
-        end = (2 * number + 2) * length // (2 * LIMITS_COUNT)
-        records.append(f"limit,{start},{end},{LIMITS[number % len(LIMITS)]}")
+    records += [f"gradient,{start},{end},{slope}" for start, end, slope in gradients]
+    records += [f"limit,{start},{end},{kmh}" for start, end, kmh in limits]
     return "".join(f"{record}\n" for record in records)
+
+
+# Cases
 
 
 @dataclass(frozen=True)
@@ -48,69 +84,236 @@ class Command:
     most_steps: Callable[[int], int]
 
 
-COMMANDS = (
-    Command(("caps", "line.csv", TRAIN_LENGTH, TRAIN_TOP), lambda length: 0),
-    Command(("brakes", "line.csv", str(TRAIN)), lambda length: 33 * (length + 1)),
-    Command(("envelope", "line.csv", str(TRAIN)), lambda length: 34 * length + 33),
-)
+COMMANDS = {
+    command.words[0]: command
+    for command in (
+        Command(("caps", "line.csv", TRAIN_LENGTH, TRAIN_TOP), lambda length: 0),
+        Command(("rise", "line.csv", str(TRAIN), TRAIN_SPEED), lambda length: 2 * length),
+        Command(("brakes", "line.csv", str(TRAIN)), lambda length: 33 * (length + 1)),
+        Command(("envelope", "line.csv", str(TRAIN)), lambda length: 34 * length + 33),
+    )
+}
+
+
+@dataclass(frozen=True)
+class Case:
+    """A command on a line, which it has to answer with status 0."""
+
+    command: str
+    length: int  # m
+    limits: Sequence[Zone]
+    gradients: Sequence[Zone]
+    about: str = ""
+
+    @property
+    def name(self) -> str:
+        metres = f"{self.length / 1000:g} km, {len(self.limits):,} limits"
+        return ", ".join(filter(None, (self.command, metres, self.about)))
+
+
+def cases() -> Iterator[Case]:
+    """The cases that are measured against the twin."""
+    hilly = hills(LONGEST)
+    for count in (20, 2000, 20000):
+        yield Case("caps", LONGEST, spread(LONGEST, count), hilly)
+    yield Case("rise", LONGEST, spread(LONGEST, 200), hilly)
+    yield Case("brakes", LONGEST, spread(LONGEST, 200), hilly)
+    for length, count in ((5000, 2), (50000, 20), (LONGEST, 200)):
+        yield Case("envelope", length, spread(length, count), hills(length), "hilly")
+    yield Case("envelope", LONGEST, spread(LONGEST, 200), [], "flat")
+    yield Case("envelope", LONGEST, stops(LONGEST), hilly, "stopping")
+
+
+def grown(command: str) -> dict[int, Case]:
+    """A command on a line, and on ones of 10, 100 and 1000 times as many metres and records."""
+    return {
+        times: Case(
+            command,
+            GRADIENT_METRES * times,
+            spread(GRADIENT_METRES * times, times),
+            hills(GRADIENT_METRES * times),
+        )
+        for times in (1, 10, 100, 1000)
+    }
+
+
+# Measuring
 
 
 @dataclass(frozen=True)
 class Measured:
-    """What one command over one line took."""
+    """What one program took for one case."""
 
-    length: int  # m
-    most_steps: int
-    size: int  # bytes printed
-    seconds: float  # the best of the runs
-
-
-def seconds_of(words: Sequence[str], folder: pathlib.Path) -> float:
-    """The best time of the runs of the program that SECONDS give room for, in seconds."""
-    times: list[float] = []
-    while sum(times) < SECONDS:
-        start = time.perf_counter()
-        subprocess.run([PROGRAM, *words], cwd=folder, stdout=subprocess.DEVNULL, check=False)
-        times.append(time.perf_counter() - start)
-    return min(times)
+    seconds: float  # user and system time: the least of the turns
+    start: float  # the same of a run without words, which reads no file and ends by `usage`
+    memory: int | None  # the greatest resident memory in KiB, where the system tells it
 
 
-def measured(command: Command, length: int, folder: pathlib.Path) -> Measured:
-    """What a command takes over a line of so many metres, which it has to answer with status 0."""
-    (folder / "line.csv").write_text(line_text(length))
-    words = [PROGRAM, *command.words]
-    text = subprocess.run(words, cwd=folder, stdout=subprocess.PIPE, check=True).stdout
-    return Measured(length, command.most_steps(length), len(text), seconds_of(command.words, folder))
+def cpu_seconds(words: Sequence[str]) -> float:
+    """User and system time of one run whose output is thrown away, in seconds."""
+    thrown = [(os.POSIX_SPAWN_OPEN, 1, os.devnull, os.O_WRONLY, 0)]
+    usage = os.wait4(os.posix_spawn(words[0], words, os.environ, file_actions=thrown), 0)[2]
+    return usage.ru_utime + usage.ru_stime
 
 
-def rows(command: Command, folder: pathlib.Path) -> Iterator[str]:
-    """The rows of a command in the table that is printed."""
-    start = seconds_of([], folder)  # no words: `usage`, before any file is read
-    all_measured = [measured(command, length, folder) for length in LENGTHS]
-    least = all_measured[0]
-    for each in all_measured:
-        steps = f"{each.most_steps / least.most_steps:.2f}" if least.most_steps else "-"
-        columns = [
-            command.words[0],
-            f"{each.length:,}",
-            f"{each.most_steps:,}",
-            steps,
-            f"{each.seconds / least.seconds:.2f}",
-            f"{(each.seconds - start) / (least.seconds - start):.1f}",
-            f"{each.size / each.seconds / 1e6:.1f}",
+def least_seconds(programs: Sequence[Sequence[str]], turns: int) -> list[float]:
+    """The least time of each program, which are run turn about."""
+    times: list[list[float]] = []
+    while len(times) < turns or sum(map(sum, times)) < SECONDS:
+        times.append([cpu_seconds(words) for words in programs])
+    return [min(each) for each in zip(*times)]
+
+
+def memory_of(process: int) -> int | None:
+    """The greatest resident memory that a program that still runs has had, in KiB."""
+    try:
+        rows = pathlib.Path(f"/proc/{process}/status").read_text().splitlines()
+    except OSError:
+        return None
+    return next((int(row.split()[1]) for row in rows if row.startswith("VmHWM")), None)
+
+
+def greatest_memory(words: Sequence[str]) -> int | None:
+    """The greatest resident memory of one run, in KiB.
+
+    It is asked as the program waits for its output to be taken: of a process that has ended the
+    system tells no less than what this script has itself.
+    """
+    told = []
+    with subprocess.Popen(words, stdout=subprocess.PIPE, bufsize=0, pipesize=PIPE) as started:
+        while started.stdout.read(PIPE):
+            told.append(memory_of(started.pid))
+    return max(filter(None, told), default=None)
+
+
+def answer(words: Sequence[str]) -> bytes:
+    """The output of a program, which ends with status 0."""
+    return subprocess.run(words, stdout=subprocess.PIPE, check=True).stdout
+
+
+def measured(case: Case, programs: Sequence[pathlib.Path], turns: int) -> list[Measured]:
+    """What each of the programs takes for a case. They have to answer it with the same bytes."""
+    with tempfile.TemporaryDirectory() as folder:
+        line = pathlib.Path(folder) / "line.csv"
+        line.write_text(line_text(case.length, case.limits, case.gradients))
+        given = [str(line) if word == line.name else word for word in COMMANDS[case.command].words]
+        runs = [[str(program), *given] for program in programs]
+        if len(set(map(answer, runs))) > 1:
+            sys.exit(f"{case.name}: the outputs differ")
+        seconds = least_seconds([*runs, *([str(program)] for program in programs)], turns)
+        starts = seconds[len(runs) :]
+        return [
+            Measured(least, start, greatest_memory(run))
+            for least, start, run in zip(seconds, starts, runs)
         ]
-        yield f"| {' | '.join(columns)} |"
+
+
+# Tables
+
+
+def row(columns: Sequence[str]) -> None:
+    """Prints a row of a table."""
+    print(f"| {' | '.join(columns)} |", flush=True)
+
+
+def head(columns: Sequence[str]) -> None:
+    """Prints the head of a table."""
+    row(columns)
+    print("|" + "---|" * len(columns))
+
+
+def milliseconds(seconds: float) -> str:
+    return f"{seconds * 1000:.2f}"
+
+
+def megabytes(memory: int | None) -> str:
+    return "-" if memory is None else f"{memory * 1024 / 1e6:.1f}"
+
+
+def print_cases(programs: Sequence[pathlib.Path], turns: int, only: str) -> None:
+    """Prints what each case takes: the program, and beside it the twin."""
+    names = NAMES[: len(programs)]
+    ratio = ["ratio"] if len(programs) > 1 else []
+    head(["case", *(f"{name}, ms" for name in names), *ratio, *(f"{name}, MB" for name in names)])
+    for case in cases():
+        if only not in case.name:
+            continue
+        found = measured(case, programs, turns)
+        columns = [milliseconds(each.seconds) for each in found]
+        if ratio:
+            columns.append(f"{found[0].seconds / found[1].seconds:.2f}")
+        row([case.name, *columns, *(megabytes(each.memory) for each in found)])
+
+
+def print_growth(programs: Sequence[pathlib.Path], turns: int, only: str) -> None:
+    """Prints how the cost of each command grows with what it is given."""
+    names = NAMES[: len(programs)]
+    columns = [f"{name}, {what}" for name in names for what in ("ms", "ns a metre")]
+    head(["command", "times", "metres", "limits", "steps at most", *columns])
+    for name, command in COMMANDS.items():
+        for times, case in grown(name).items():
+            if only not in case.name:
+                continue
+            columns = []
+            for each in measured(case, programs, turns):
+                a_metre = (each.seconds - each.start) / case.length
+                columns += [milliseconds(each.seconds), f"{a_metre * 1e9:.1f}"]
+            sizes = [times, case.length, len(case.limits), command.most_steps(case.length)]
+            row([name, *(f"{size:,}" for size in sizes), *columns])
+
+
+# Programs
+
+
+def built_program() -> pathlib.Path:
+    """The proved program, which is proved and built where it isn't current."""
+    if subprocess.run([TOP / "rtime"], stdout=subprocess.DEVNULL).returncode != 2:  # without words
+        sys.exit("the program isn't proved and built")
+    return PROGRAM
+
+
+def built_twin() -> pathlib.Path | None:
+    """The twin, which is built where it isn't current; none where its compiler isn't there."""
+    if not shutil.which("rustc") or not shutil.which("cargo"):
+        print("Without the twin: rustc and cargo aren't there.\n")
+        return None
+    paths = ["--manifest-path", TWIN / "Cargo.toml", "--target-dir", TWIN / "target"]
+    subprocess.run(["cargo", "build", "--release", "--offline", "--quiet", *paths], check=True)
+    return TWIN / "target" / "release" / "twin"
+
+
+def pin() -> None:
+    """Keeps this process, and with it all that it starts, on one core, where the system can."""
+    if hasattr(os, "sched_setaffinity"):
+        os.sched_setaffinity(0, {max(os.sched_getaffinity(0))})
+    else:
+        print("Not pinned to one core: the system has no call for it.\n")
+
+
+def machine() -> str:
+    """The kind of machine that measures."""
+    try:
+        rows = pathlib.Path("/proc/cpuinfo").read_text().splitlines()
+    except OSError:
+        rows = []
+    models = (row.split(":", 1)[1].strip() for row in rows if row.startswith("model name"))
+    return f"{next(models, platform.machine())}, {os.cpu_count()} cores"
 
 
 def main() -> int:
-    if subprocess.run([TOP / "rtime"], stdout=subprocess.DEVNULL).returncode != 2:  # without words
-        sys.exit("the program isn't proved and built")
-    print("| command | metres | steps at most | ratio | time, ratio | less the start | MB a second |")
-    print("|---|---|---|---|---|---|---|")
-    with tempfile.TemporaryDirectory() as folder:
-        for command in COMMANDS:
-            for row in rows(command, pathlib.Path(folder)):
-                print(row, flush=True)
+    parser = argparse.ArgumentParser(description="Measures rtime against its twin.")
+    parser.add_argument("--turns", type=int, default=TURNS, help="the fewest turns of a case")
+    parser.add_argument("--only", default="", help="only what has this text in its name")
+    parser.add_argument("--program", type=pathlib.Path, help="a program in place of ./rtime")
+    given = parser.parse_args()
+    program = given.program.resolve() if given.program else built_program()
+    twin = built_twin()
+    programs = [program, twin] if twin else [program]
+    pin()
+    print(f"{machine()}\n")
+    print_cases(programs, given.turns, given.only)
+    print()
+    print_growth(programs, given.turns, given.only)
     return 0
 
 
