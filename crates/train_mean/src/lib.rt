@@ -24,17 +24,52 @@ pub fn pulls(alloc: Global, line: &Line, mass: u32, train: u32) -> Result<Vec<i6
 {
     let length = line.length();
     let (mut head, mut tail, mut sum) = (line.slopes(), line.slopes(), 0);
-    let mut pulls = Vec::new(alloc);
+    let mut under = Under {
+        sum: 0,
+        pull: pull(mass, train, 0),
+    };
+    let Ok(mut pulls) = Vec::with_capacity(alloc, length as usize) else {
+        return Err(Memory);
+    };
     for cell in 0..length {
         head = skip_passed(head, cell);
         let (left, behind) = leave(tail, train, cell);
         tail = left;
         sum = moved_sum(sum, gradient_in(head, cell), behind);
-        let Ok(()) = pulls.push(pull(mass, train, sum)) else {
+        under = pulled(mass, train, under, sum);
+        let Ok(()) = pulls.push(under.pull) else {
             return Err(Memory);
         };
     }
     Ok(pulls)
+}
+
+// The sum of the gradients under a train, in tenths of a per mille, and its pull.
+#[derive(Clone, Copy)]
+struct Under {
+    sum: i64,
+    pull: i64,
+}
+
+// A sum with its pull, which is known where the sum is as before, as in most cells.
+fn pulled(mass: u32, train: u32, before: Under, sum: i64) -> Under
+    requires mass { mass ≤ 20000000 }
+    requires train_least { 1 ≤ train }
+    requires train_most { train ≤ 5000 }
+    requires before { before.pull ≡ pull_of mass train before.sum }
+    requires least { neg_ℤ (pos (1000 * train)) ≤ℤ sum }
+    requires most { sum ≤ℤ pos (1000 * train) }
+    ensures sum { result.sum ≡ sum }
+    ensures pull { result.pull ≡ pull_of mass train sum }
+    ensures small { IsPull result.pull }
+{
+    if sum == before.sum {
+        return before;
+    }
+    Under {
+        sum,
+        pull: pull(mass, train, sum),
+    }
 }
 
 // The slopes without those that end at a cell or before it.

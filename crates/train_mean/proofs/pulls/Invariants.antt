@@ -13,5 +13,6 @@ invariant-loop-cell l = record {
   tail_slopes : AreSlopes l.tail;
   sum : l.sum ≡ sum_from (gradient_at l.line.slopes) (l.cell - l.train) (l.cell - (l.cell - l.train));
   pulls : l.pulls.items ≡ map (λ cell. pull_of l.mass l.train (gradients_under l.line.slopes l.train cell)) (range_with_len 0 l.cell);
+  pulled : l.under.pull ≡ pull_of l.mass l.train l.under.sum;
   small : All IsPull l.pulls.items;
 }
