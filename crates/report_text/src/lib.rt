@@ -1,13 +1,15 @@
-//! The texts that rtime prints. None of these calls takes memory: each text goes out through one page.
+//! The texts that rtime prints. None of these calls takes memory: each text goes out through one page,
+//! and a list by point through one block.
 #![tactic(auto)]
 
-ghost use Rattle.std.specs.Prelude.{◌≡◌, ◌≤◌, ◌<◌, ◌+◌, ◌++◌, [], length, OnOk, OnErr};
+ghost use Rattle.std.specs.Prelude.{◌≡◌, ◌≤◌, ◌<◌, ◌+◌, ◌-◌, ◌++◌, [], length, slice_index, OnOk, OnErr};
 ghost use Rattle.std.specs.Fmt.{signed_decimal};
 ghost use Rattle.run_io.specs.Pages.{Carries};
+ghost use Rattle.run_io.specs.Texts.{lines_from};
 ghost use Rattle.run_io.specs.Told.{HasCause, Writes, WritesFront};
 ghost use Rattle.report_text.specs.Texts.{bands_text, list_text, numbers_text, point_line, reach_text, spaced, speed_line, train_line};
 
-use run_io::{Failed, PAGE, Page, Sink};
+use run_io::{BLOCK, Block, Failed, PAGE, Page, Sink};
 use stock_tables::Stock;
 use unit_rules::Reach;
 
@@ -104,23 +106,40 @@ pub fn write_list<K: Sink>(out: &mut K, numbers: &[u32]) -> Result<(), Failed>
         (list_text numbers.now)) }
     ensures cause { HasCause (K.told out.old) (K.told out.new) result }
 {
-    let mut page = Page::new();
-    for (point, number) in numbers.iter().enumerate() {
-        page.make_room(out, 42)?;
-        put_point(&mut page, point as u64, *number);
+    let mut block = Block::new();
+    let mut from = 0;
+    while from < numbers.len() {
+        let to = from + LINES.min(numbers.len() - from);
+        put_points(&mut block, numbers, from, to);
+        block.flush(out)?;
+        from = to;
     }
-    page.flush(out)
+    Ok(())
 }
 
-// Puts the line of a point: the point and its number.
-fn put_point(page: &mut Page, point: u64, number: u32)
-    requires { length page.old + 42 ≤ PAGE }
-    ensures { page.new ≡ page.old ++ point_line point number }
+// How many lines of points a block has room for, however long they are.
+const LINES: usize = BLOCK / 42;
+
+// Puts the lines of the points `from..to` on an empty block.
+fn put_points(block: &mut Block, numbers: &[u32], from: usize, to: usize)
+    requires empty { block.old ≡ [] }
+    requires ordered { from ≤ to }
+    requires few { to ≤ from + LINES }
+    requires listed { to ≤ length numbers.now }
+    ensures { block.new ≡ lines_from (λ i. point_line i (slice_index numbers.now i)) from (to - from) }
 {
-    page.put_number(point);
-    page.put(b" ");
-    page.put_number(number as u64);
-    page.put(b"\n");
+    for point in (from..to).rev() {
+        put_point(block, point as u64, numbers[point]);
+    }
+}
+
+// Puts the line of a point before the others: the point and its number.
+fn put_point(block: &mut Block, point: u64, number: u32)
+    requires { length block.old + 42 ≤ BLOCK }
+    ensures line { block.new ≡ point_line point number ++ block.old }
+    ensures short { length block.new ≤ length block.old + 42 }
+{
+    block.put_pair(point, number as u64);
 }
 
 /// Writes how far a train gets: `whole`, or `stalled K` with the first point that no train gets to.

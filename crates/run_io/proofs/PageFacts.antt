@@ -2,7 +2,7 @@
 use Rattle.std.proofs.Common.{◌≡◌, ℕ, List, [], ◌++◌, sym, ap, subst, ◌∙◌, append_assoc}
 use Rattle.std.proofs.lemmas.List.{append-nil}
 use Rattle.run_io.specs.Pages.{Carries}
-use Rattle.run_io.specs.Told.{Told, WritesFront}
+use Rattle.run_io.specs.Told.{Told, Writes, WritesFront}
 use Rattle.run_io.proofs.Written.{Writes-trans, WritesFront-after}
 
 -- text put behind what is held
@@ -49,3 +49,7 @@ WritesFront-carried w w' w'' h' text more all c f e =
 
 pub WritesFront-carried-all : (w w' w'' : Told (List ℕ)) (h' text : List ℕ) → Carries w [] w' h' text → WritesFront w' w'' h' → WritesFront w w'' text
 WritesFront-carried-all w w' w'' h' text c f = WritesFront-carried w w' w'' h' text [] text c f (sym (append-nil text))
+
+-- where all that was held has gone, nothing more is held
+pub Carries-all : (w w' : Told (List ℕ)) (h h' : List ℕ) → Writes w w' h → h' ≡ [] → Carries w h w' h' []
+Carries-all w w' h h' gone e = record { sent = h; gone = gone; rest = ap (λ (q : List ℕ). h ++ q) (sym e) }

@@ -1,27 +1,37 @@
-use Rattle.std.proofs.Common.{arith, length}
+use Rattle.std.proofs.Common.{◌≡◌, ℕ, ◌+◌, ◌-◌, [], arith, length, refl}
 use Rattle.std.specs.Prelude.{slice_index}
-use Rattle.run_io.proofs.ErrFacts.{OnErr-along, OnErr-always}
-use Rattle.run_io.proofs.TextFacts.{WritesFront-lines, Carries-line}
+use Rattle.run_io.specs.Texts.{lines_below}
+use Rattle.run_io.proofs.ErrFacts.{OnErr-always}
+use Rattle.run_io.proofs.PageFacts.{Carries-all, Carries-trans}
+use Rattle.run_io.proofs.TextFacts.{WritesFront-lines, Carries-lines}
 use Rattle.report_text.specs.Texts.{point_line}
 use Rattle.report_text.proofs.write_list.Goals as goal
 
-pub returns-in_err-make_room-clause-failed : goal.returns-in_err-make_room-clause-failed
-returns-in_err-make_room-clause-failed g c =
-    OnErr-always c.from_residual.result (WritesFront-lines (λ i. point_line i (slice_index c.args.numbers.now i)) c.loop-point.point (length c.args.numbers.now)
-    (g.K.Sink.told c.args.out.now) (g.K.Sink.told c.loop-point.out) (g.K.Sink.told c.make_room.new.out) c.loop-point.page
-    (omega arith) c.loop-point.invariant.carried c.in_err-make_room.ensures.failed)
+pub returns-in_err-flush-clause-failed : goal.returns-in_err-flush-clause-failed
+returns-in_err-flush-clause-failed g c =
+    let line = λ (i : ℕ). point_line i (slice_index c.args.numbers.now i) in
+    let from = c.loop-from.from in
+    let n = c.min.result in
+    let same : from + n - from ≡ n = omega arith in
+    let held = Carries-lines line from n (from + n) (g.K.Sink.told c.args.out.now) (g.K.Sink.told c.loop-from.out) c.put_points.new.block refl c.loop-from.invariant.carried
+    (rw same at c.put_points.ensures) in
+    OnErr-always c.from_residual.result (WritesFront-lines line (from + n) (length c.args.numbers.now)
+    (g.K.Sink.told c.args.out.now) (g.K.Sink.told c.loop-from.out) (g.K.Sink.told c.flush.new.out) c.put_points.new.block
+    (omega arith) held c.in_err-flush.ensures.failed)
 
-pub loop-point-preserved : goal.loop-point-preserved
-loop-point-preserved g c =
-    let cause = c.in_ok-make_room.ensures.cause in
+pub loop-from-preserved : goal.loop-from-preserved
+loop-from-preserved g c =
+    let line = λ (i : ℕ). point_line i (slice_index c.args.numbers.now i) in
+    let from = c.loop-from.from in
+    let n = c.min.result in
+    let same : from + n - from ≡ n = omega arith in
+    let held = Carries-lines line from n (from + n) (g.K.Sink.told c.args.out.now) (g.K.Sink.told c.loop-from.out) c.put_points.new.block refl c.loop-from.invariant.carried
+    (rw same at c.put_points.ensures) in
+    let gone = Carries-all (g.K.Sink.told c.loop-from.out) (g.K.Sink.told c.flush.new.out) c.put_points.new.block [] c.in_ok-flush.ensures.ok refl in
+    let cause = c.in_ok-flush.ensures.cause in
     record {
-      carried = Carries-line (λ i. point_line i (slice_index c.args.numbers.now i)) c.loop-point.point (g.K.Sink.told c.args.out.now) (g.K.Sink.told c.loop-point.out)
-          (g.K.Sink.told c.make_room.new.out) c.loop-point.page c.make_room.new.self c.put_point.new.page c.loop-point.invariant.carried c.in_ok-make_room.ensures.ok c.put_point.ensures;
-      later = omega (arith, c.loop-point.invariant.later, cause.later);
+      within = omega arith;
+      empty = c.in_ok-flush.ensures.empty;
+      carried = Carries-trans (g.K.Sink.told c.args.out.now) (g.K.Sink.told c.loop-from.out) (g.K.Sink.told c.flush.new.out) [] c.put_points.new.block [] (lines_below line (from + n)) held gone;
+      later = omega (arith, c.loop-from.invariant.later, cause.later);
     }
-
-pub returns-clause-failed : goal.returns-clause-failed
-returns-clause-failed g c =
-    OnErr-along c.flush.result (WritesFront-lines (λ i. point_line i (slice_index c.args.numbers.now i)) c.loop-point.point (length c.args.numbers.now)
-    (g.K.Sink.told c.args.out.now) (g.K.Sink.told c.loop-point.out) (g.K.Sink.told c.flush.new.out) c.loop-point.page
-    (omega arith) c.loop-point.invariant.carried) c.flush.ensures.failed
