@@ -5,13 +5,14 @@
 ghost use Rattle.std.specs.Prelude.{◌≡◌, ◌≢◌, ℕ, ◌+◌, ◌-◌, ◌*◌, ◌<◌, ◌≤◌, length, slice_index};
 ghost use Rattle.run_rules.specs.Runs.{IsBrakingList};
 ghost use Rattle.run_rules.specs.Walks.{IsGreatestAt, IsGreatestNumber};
+ghost use Rattle.limit_profile.specs.Levels.{IsLevel};
 ghost use Rattle.limit_profile.specs.Profile.{caps};
 ghost use Rattle.step_rule.specs.Motion.{cells_of, kmh_of, step_rule_of};
 
 #[cfg(test)]
 mod tests;
 
-use limit_profile::Limits;
+use limit_profile::{Level, Limits};
 use std::sync::ledger::Ledger;
 use step_rule::Rule;
 use unit_rules::Steps;
@@ -45,12 +46,13 @@ pub fn walk_back<L: Ledger>(
     ensures cost { steps.new ≤ steps.old + 33 * (to + 2 - result) }
     ensures end_cost { to ≡ limits.now.length → steps.new ≤ steps.old + 33 * (to + 1 - result) }
 {
+    let mut level = Level::empty();
     for point in (from as usize..to as usize + 1).rev() {
-        c[point] = number_at(rule, limits, point as u32, c, steps);
+        c[point] = number_at(rule, limits, point as u32, c, &mut level, steps);
     }
     let mut lowest = from;
     while lowest > 0 {
-        let number = number_at(rule, limits, lowest - 1, c, steps);
+        let number = number_at(rule, limits, lowest - 1, c, &mut level, steps);
         if number == c[lowest as usize - 1] {
             return lowest;
         }
@@ -66,17 +68,20 @@ fn number_at<L: Ledger>(
     limits: &Limits,
     point: u32,
     c: &[u32],
+    level: &mut Level,
     steps: &mut Steps<L>,
 ) -> u32
     requires same_length { limits.now.length ≡ cells_of rule.now }
     requires same_top { limits.now.top ≡ kmh_of rule.now }
     requires points { length c.now ≡ limits.now.length + 1 }
     requires on_line { point ≤ limits.now.length }
+    requires level { IsLevel limits.now level.old }
+    ensures level { IsLevel limits.now level.new }
     ensures number { IsGreatestNumber (step_rule_of rule.now) (caps limits.now) c.now point result }
     ensures cost { steps.new ≤ steps.old + 33 }
     ensures end_cost { point ≡ limits.now.length → steps.new ≡ steps.old }
 {
-    let cap = limits.cap(point);
+    let cap = limits.cap_near(point, level);
     if point == rule.cells() {
         return cap;
     }

@@ -1,2 +1,3 @@
 pub mod CapFacts
 pub mod LeastFacts
+pub mod KeepFacts

@@ -2,16 +2,42 @@
 //! the stops allow at each point.
 #![tactic(auto)]
 
-ghost use Rattle.std.specs.Prelude.{◌≡◌, ◌≤◌, ◌<◌, All, IfOk, slice_index};
-ghost use Rattle.run_rules.specs.Caps.{binding_at, bounds_at, least};
+ghost use Rattle.std.specs.Prelude.{◌≡◌, ℕ, ◌+◌, ◌-◌, ◌^◌, ◌≤◌, ◌<◌, ◌==◌, All, IfOk, slice_index};
+ghost use Rattle.run_rules.specs.Caps.{binding_at, binds_at, bounds_at, least};
 ghost use Rattle.run_rules.specs.Speeds.{squared};
 ghost use Rattle.unit_rules.specs.Zone.{LiesOn};
-ghost use Rattle.limit_profile.specs.Profile.{IsProfile, cap, caps};
+ghost use Rattle.limit_profile.specs.Levels.{IsLevel};
+ghost use Rattle.limit_profile.specs.Profile.{IsProfile, Profile, cap, caps};
 
 use run_rules::{binds_at, squared};
 use std::alloc::Global;
 use std::marker::Model;
 use unit_rules::{Bound, Memory, Zone};
+
+/// A stretch of points, from one up to another, that have one cap. It is empty where it ends before
+/// it begins.
+#[derive(Clone, Copy, Debug, PartialEq, Eq)]
+pub struct Level {
+    /// The point at which it begins.
+    pub from: u32,
+    /// The point at which it ends.
+    pub to: u32,
+    /// The cap, in (0.01 km/h)².
+    pub cap: u32,
+}
+
+impl Level {
+    /// A stretch of no points.
+    pub fn empty() -> Level
+        ensures { (p : Profile) → IsLevel p result }
+    {
+        Level {
+            from: 1,
+            to: 0,
+            cap: 0,
+        }
+    }
+}
 
 /// The limits that bind a train on a line.
 #[derive(Drop)]
@@ -98,6 +124,43 @@ impl Limits {
         self.least_at(point)
     }
 
+    /// The cap at a point, in (0.01 km/h)², for a walk along the line that carries `level` with it. Where
+    /// the stretch has the point, its cap is at hand; else the limits are gone through, and `level`
+    /// becomes a stretch about the point, so a walk goes through them once a stretch.
+    pub fn cap_near(&self, point: u32, level: &mut Level) -> u32
+        requires on_line { point ≤ self.now.length }
+        requires level { IsLevel self.now level.old }
+        ensures cap { result ≡ cap self.now point }
+        ensures listed { result ≡ slice_index (caps self.now) point }
+        ensures most { result ≤ squared self.now.top }
+        ensures level { IsLevel self.now level.new }
+        ensures kept { IsProfile self.now }
+    {
+        let _ = &self.length;
+        if level.from <= point && point <= level.to {
+            return level.cap;
+        }
+        *level = self.level_at(point);
+        level.cap
+    }
+
+    // The stretch about a point in which no limit begins or ends.
+    fn level_at(&self, point: u32) -> Level
+        requires { point ≤ self.now.length }
+        ensures from { result.from ≤ point }
+        ensures to { point ≤ result.to }
+        ensures level { IsLevel self.now result }
+        ensures kept { IsProfile self.now }
+    {
+        let zones = zones_stretch(self.length, self.train, &self.zones, point);
+        let bounds = bounds_stretch(self.length, &self.bounds, point);
+        Level {
+            from: zones.from.max(bounds.from),
+            to: zones.to.min(bounds.to),
+            cap: self.least_at(point),
+        }
+    }
+
     // The least of what holds at a point.
     fn least_at(&self, point: u32) -> u32
         ensures cap { result ≡ cap self.now point }
@@ -123,6 +186,106 @@ fn zone_cap(length: u32, train: u32, top: u32, zones: &[Zone], point: u32) -> u3
         }
     }
     least
+}
+
+// Points from one up to another.
+#[derive(Clone, Copy)]
+struct Stretch {
+    from: u32,
+    to: u32,
+}
+
+// A stretch about a point in which the same zones bind.
+fn zones_stretch(length: u32, train: u32, zones: &[Zone], point: u32) -> Stretch
+    requires short { length ≤ 500000 }
+    requires train { train ≤ 5000 }
+    requires on_line { point ≤ length }
+    requires lie { All (LiesOn length) zones.now }
+    ensures from { result.from ≤ point }
+    ensures to { point ≤ result.to }
+    ensures same { (i : ℕ) → result.from ≤ i → i ≤ result.to
+        → binding_at length train zones.now i ≡ binding_at length train zones.now point }
+{
+    let mut from = 0;
+    let mut to = length;
+    for zone in zones {
+        let stretch = zone_stretch(length, train, *zone, point);
+        from = stretch.from.max(from);
+        to = stretch.to.min(to);
+    }
+    Stretch { from, to }
+}
+
+// A stretch about a point in which a zone binds as it does there.
+fn zone_stretch(length: u32, train: u32, zone: Zone, point: u32) -> Stretch
+    requires short { zone.to + train < 2 ^ 32 - 1 }
+    requires on_line { point ≤ length }
+    ensures from { result.from ≤ point }
+    ensures to { point ≤ result.to }
+    ensures same { (i : ℕ) → result.from ≤ i → i ≤ result.to
+        → binds_at length train i zone ≡ binds_at length train point zone }
+{
+    let end = length.min(zone.to + train);
+    if point < zone.from {
+        Stretch {
+            from: 0,
+            to: zone.from - 1,
+        }
+    } else if point <= end {
+        Stretch {
+            from: zone.from,
+            to: end,
+        }
+    } else {
+        Stretch {
+            from: end + 1,
+            to: length,
+        }
+    }
+}
+
+// A stretch about a point in which the same bounds hold.
+fn bounds_stretch(length: u32, bounds: &[Bound], point: u32) -> Stretch
+    requires { point ≤ length }
+    ensures from { result.from ≤ point }
+    ensures to { point ≤ result.to }
+    ensures same { (i : ℕ) → result.from ≤ i → i ≤ result.to
+        → bounds_at bounds.now i ≡ bounds_at bounds.now point }
+{
+    let mut from = 0;
+    let mut to = length;
+    for bound in bounds {
+        let stretch = bound_stretch(length, *bound, point);
+        from = stretch.from.max(from);
+        to = stretch.to.min(to);
+    }
+    Stretch { from, to }
+}
+
+// A stretch about a point in which a bound holds as it does there.
+fn bound_stretch(length: u32, bound: Bound, point: u32) -> Stretch
+    requires { point ≤ length }
+    ensures from { result.from ≤ point }
+    ensures to { point ≤ result.to }
+    ensures same { (i : ℕ) → result.from ≤ i → i ≤ result.to
+        → (bound.at == i) ≡ (bound.at == point) }
+{
+    if point < bound.at {
+        Stretch {
+            from: 0,
+            to: bound.at - 1,
+        }
+    } else if point == bound.at {
+        Stretch {
+            from: point,
+            to: point,
+        }
+    } else {
+        Stretch {
+            from: bound.at + 1,
+            to: length,
+        }
+    }
 }
 
 // The least of a number and of the bounds at a point.
@@ -178,6 +341,11 @@ mod tests {
         for (point, cap) in rows {
             assert_eq!(rt; limits.cap(point), cap);
         }
+        let mut level = Level::empty();
+        assert_eq!(rt; limits.cap_near(100, &mut level), 12_960_000);
+        assert_eq!(rt; limits.cap_near(250, &mut level), 12_960_000);
+        assert_eq!(rt; limits.cap_near(251, &mut level), 36_000_000);
+        assert_eq!(rt; limits.cap_near(20, &mut level), 0);
         Ok(())
     }
 }

@@ -10,18 +10,18 @@ pub returns-then-point-cells-clause-number : goal.returns-then-point-cells-claus
 returns-then-point-cells-clause-number g c =
     let limits = c.args.limits.now in
     let long = length-caps limits in
-    IsGreatestNumber-cap (step_rule_of c.args.rule.now) (caps limits) c.args.c.now c.args.point c.cap-cap.result c.cap-cap.ensures.listed (λ l. absurd (omega arith))
+    IsGreatestNumber-cap (step_rule_of c.args.rule.now) (caps limits) c.args.c.now c.args.point c.cap_near-cap.result c.cap_near-cap.ensures.listed (λ l. absurd (omega arith))
 
 pub returns-then-cap-next-clause-number : goal.returns-then-cap-next-clause-number
 returns-then-cap-next-clause-number g c =
     let limits = c.args.limits.now in
-    let slows = low-le c.args.rule.now c.cells.ensures.kept c.args.point c.cap-cap.result (rw c.requires.same_top at c.cap-cap.ensures.most) in
-    IsGreatestNumber-cap (step_rule_of c.args.rule.now) (caps limits) c.args.c.now c.args.point c.cap-cap.result c.cap-cap.ensures.listed (λ l. omega (arith, ints))
+    let slows = low-le c.args.rule.now c.cells.ensures.kept c.args.point c.cap_near-cap.result (rw c.requires.same_top at c.cap_near-cap.ensures.most) in
+    IsGreatestNumber-cap (step_rule_of c.args.rule.now) (caps limits) c.args.c.now c.args.point c.cap_near-cap.result c.cap_near-cap.ensures.listed (λ l. omega (arith, ints))
 
 pub returns-clause-number : goal.returns-clause-number
 returns-clause-number g c =
     let limits = c.args.limits.now in
     let long = length-caps limits in
     let back = c.back.ensures in
-    let cap = c.cap-cap.ensures.listed in
+    let cap = c.cap_near-cap.ensures.listed in
     IsGreatestNumber-below (step_rule_of c.args.rule.now) (caps limits) c.args.c.now c.args.point _ _ c.back.result back.most back.braked back.greatest (omega arith) (omega arith) (omega arith)

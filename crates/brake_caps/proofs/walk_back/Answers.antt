@@ -11,6 +11,7 @@ loop-point-init g c =
     let long = length-caps c.args.limits.now in
     record {
       least = omega arith;
+      level = c.empty-level.ensures c.args.limits.now;
       right = λ i h l. c.requires.past i (omega arith) (omega arith);
       kept = λ i h. refl;
       kept_past = λ i h. refl;
@@ -29,6 +30,7 @@ loop-point-preserved g c =
     let number = c.number_at.result in
     record {
       least = omega (arith, c.loop-point-test.true);
+      level = c.number_at.ensures.level;
       right = IsGreatestFrom-set (step_rule_of c.args.rule.now) (caps c.args.limits.now) list p number (omega (arith, old.points)) (omega arith) (λ i h l. old.right i (omega arith) l) c.number_at.ensures.number;
       kept = λ i h. get_or-set_other list p i number 0 (omega arith) ∙ old.kept i (omega arith);
       kept_past = λ i h. get_or-set_other list p i number 0 (omega arith) ∙ old.kept_past i h;
@@ -46,6 +48,7 @@ loop-lowest-init g c =
     let old = c.loop-point.invariant in
     let done : c.loop-point.point ≡ c.args.from = omega (arith, c.loop-point-test.false) in
     record {
+      level = old.level;
       right = λ i h l. old.right i (omega arith) l;
       kept = λ i h. old.kept i (omega arith);
       kept_past = old.kept_past;
@@ -64,6 +67,7 @@ loop-lowest-preserved g c =
     let long = length-caps c.args.limits.now in
     let number = c.number_at-number.result in
     record {
+      level = c.number_at-number.ensures.level;
       right = IsGreatestFrom-set (step_rule_of c.args.rule.now) (caps c.args.limits.now) list p number (omega (arith, old.points)) (omega (arith, c.loop-lowest-test.true)) (λ i h l. old.right i (omega arith) l) c.number_at-number.ensures.number;
       kept = λ i h. get_or-set_other list p i number 0 (omega arith) ∙ old.kept i (omega arith);
       kept_past = λ i h. get_or-set_other list p i number 0 (omega (arith, old.most)) ∙ old.kept_past i h;

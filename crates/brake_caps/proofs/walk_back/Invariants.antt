@@ -1,5 +1,6 @@
 use Rattle.std.proofs.Common.{◌≡◌, ◌≢◌, ℕ, ◌+◌, ◌*◌, ◌<◌, ◌≤◌, length, slice_index}
 use Rattle.run_rules.proofs.BrakingFacts.{IsGreatestFrom}
+use Rattle.limit_profile.specs.Levels.{IsLevel}
 use Rattle.limit_profile.specs.Profile.{caps}
 use Rattle.step_rule.specs.Motion.{step_rule_of}
 use Rattle.brake_caps.proofs.walk_back.Given as goal
@@ -8,6 +9,7 @@ use Rattle.brake_caps.proofs.walk_back.Given as goal
 abbrev pub invariant-loop-point : goal.invariant-loop-point
 invariant-loop-point g l = record {
   least : l.from ≤ l.point;
+  level : IsLevel l.limits l.level;
   right : IsGreatestFrom (step_rule_of l.rule) (caps l.limits) l.c l.point;
   kept : (i : ℕ) → i < l.point → slice_index l.c i ≡ slice_index l.fn.c i;
   kept_past : (i : ℕ) → l.to < i → slice_index l.c i ≡ slice_index l.fn.c i;
@@ -20,6 +22,7 @@ invariant-loop-point g l = record {
 -- below `from` those from `lowest` on changed
 abbrev pub invariant-loop-lowest : goal.invariant-loop-lowest
 invariant-loop-lowest g l = record {
+  level : IsLevel l.limits l.level;
   right : IsGreatestFrom (step_rule_of l.rule) (caps l.limits) l.c l.lowest;
   kept : (i : ℕ) → i < l.lowest → slice_index l.c i ≡ slice_index l.fn.c i;
   kept_past : (i : ℕ) → l.to < i → slice_index l.c i ≡ slice_index l.fn.c i;
