@@ -1,8 +1,9 @@
 -- The caps of a profile, point by point and as a list.
-use Rattle.std.proofs.Common.{◌≡◌, ◌≤◌, ◌+◌, ℕ, length, slice_index, sym, ◌∙◌, ap, arith, refl}
+use Rattle.std.proofs.Common.{◌≡◌, ◌≤◌, ◌+◌, ℕ, length, slice_index, sym, ◌∙◌, ap, arith}
 use Rattle.std.proofs.lemmas.List.FromFn.{get_or-map-range_with_len, length-map-range_with_len}
 use Rattle.run_rules.specs.Caps.{binding_at, bounds_at, least}
 use Rattle.run_rules.specs.Speeds.{squared}
+use Rattle.limit_profile.specs.Breaks.{zoned_at}
 use Rattle.limit_profile.specs.Profile.{Profile, cap, caps}
 use Rattle.limit_profile.proofs.LeastFacts.{least-append, least-le}
 
@@ -23,6 +24,7 @@ length-caps p = length-map-range_with_len (cap p) 0 (p.length + 1)
 pub slice_index-caps : (p : Profile) (point : ℕ) → point ≤ p.length → slice_index (caps p) point ≡ cap p point
 slice_index-caps p point h = get_or-map-range_with_len (cap p) 0 (p.length + 1) point point 0 (omega arith) (omega arith)
 
--- where the zones that bind are the same, and the bounds, the cap is
-pub cap-same : (p : Profile) (i point : ℕ) → binding_at p.length p.train p.zones i ≡ binding_at p.length p.train p.zones point → bounds_at p.bounds i ≡ bounds_at p.bounds point → cap p i ≡ cap p point
-cap-same p i point e f = rw (e, f) refl
+-- where the zones have one cap and the bounds are the same, so is the cap
+pub cap-level : (p : Profile) (i point zoned result : ℕ) → zoned_at p.length p.train p.top p.zones i ≡ zoned → bounds_at p.bounds i ≡ bounds_at p.bounds point
+    → result ≡ least zoned (bounds_at p.bounds point) → cap p i ≡ result
+cap-level p i point zoned result zones bounds is = sym (cap-least p i zoned result (sym zones) (is ∙ ap (least zoned) (sym bounds)))

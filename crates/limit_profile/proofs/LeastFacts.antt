@@ -1,5 +1,5 @@
 -- The least of a number and of those of a list.
-use Rattle.std.proofs.Common.{◌≡◌, ◌≤◌, ℕ, List, [], ◌∷◌, ◌++◌, min, refl, arith}
+use Rattle.std.proofs.Common.{◌≡◌, ◌≤◌, ℕ, List, [], ◌∷◌, ◌++◌, min, refl, arith, ap, sym, ◌∙◌}
 use Rattle.run_rules.specs.Caps.{least}
 
 -- it is at most the number
@@ -20,3 +20,9 @@ least-of-min x most (y ∷ ys) = omega (arith, least-of-min x most ys)
 pub least-append : (most : ℕ) (xs ys : List ℕ) → least most (xs ++ ys) ≡ least (least most xs) ys
 least-append most [] ys = refl
 least-append most (x ∷ xs) ys = let rest = least-append most xs ys in let first = least-of-min x (least most xs) ys in cc
+
+-- the least of a number and either list is the lesser of the leasts of both
+pub least-meet : (most : ℕ) (xs ys : List ℕ) → least (least most xs) ys ≡ min (least most xs) (least most ys)
+least-meet most xs ys =
+    let less : min (least most xs) most ≡ least most xs = omega (arith, least-le most xs) in
+    ap (λ (m : ℕ). least m ys) (sym less) ∙ least-of-min (least most xs) most ys

@@ -1,3 +1,6 @@
 pub mod CapFacts
 pub mod LeastFacts
 pub mod KeepFacts
+pub mod PieceFacts
+pub mod BreakFacts
+pub mod ZoneFacts

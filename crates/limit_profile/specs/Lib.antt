@@ -1,2 +1,4 @@
 pub mod Profile
 pub mod Levels
+pub mod Pieces
+pub mod Breaks

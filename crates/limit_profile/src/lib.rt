@@ -6,10 +6,16 @@ ghost use Rattle.std.specs.Prelude.{◌≡◌, ℕ, ◌+◌, ◌-◌, ◌^◌, �
 ghost use Rattle.run_rules.specs.Caps.{binding_at, binds_at, bounds_at, least};
 ghost use Rattle.run_rules.specs.Speeds.{squared};
 ghost use Rattle.unit_rules.specs.Zone.{LiesOn};
+ghost use Rattle.limit_profile.specs.Breaks.{breaks_of, zoned_at};
 ghost use Rattle.limit_profile.specs.Levels.{IsLevel};
 ghost use Rattle.limit_profile.specs.Profile.{IsProfile, Profile, cap, caps};
 
-use run_rules::{binds_at, squared};
+mod breaks;
+mod pieces;
+
+pub use crate::breaks::Break;
+use crate::breaks::{break_up_to, list_breaks};
+use crate::pieces::zoned_pieces;
 use std::alloc::Global;
 use std::marker::Model;
 use unit_rules::{Bound, Memory, Zone};
@@ -47,10 +53,12 @@ pub struct Limits {
     top: u32,
     zones: Vec<Zone>,
     bounds: Vec<Bound>,
+    breaks: Vec<Break>,
 }
 
 impl Model for Limits {
-    ghost use Rattle.limit_profile.specs.Profile.{IsProfile, Profile};
+    ghost use Rattle.limit_profile.specs.Breaks.{IsKept};
+    ghost use Rattle.limit_profile.specs.Profile.{Profile};
 
     ghost Value = { Profile };
 
@@ -62,13 +70,13 @@ impl Model for Limits {
       bounds = l.bounds.items;
     } };
 
-    ghost invariant = { λ l. IsProfile (record {
+    ghost invariant = { λ l. IsKept (record {
       length = l.length;
       train = l.train;
       top = l.top;
       zones = l.zones.items;
       bounds = l.bounds.items;
-    }) };
+    }) l.breaks.items };
 }
 
 impl Limits {
@@ -97,6 +105,8 @@ impl Limits {
           bounds = bounds.now;
         }) }
     {
+        let pieces = zoned_pieces(alloc, length, train, top, zones)?;
+        let breaks = list_breaks(alloc, &pieces)?;
         let (Ok(zones), Ok(bounds)) = (
             Vec::from_slice(alloc, zones),
             Vec::from_slice(alloc, bounds),
@@ -109,7 +119,17 @@ impl Limits {
             top,
             zones,
             bounds,
+            breaks,
         })
+    }
+
+    /// The breaks of the caps of the zones: the points from which they are others than before, with 0
+    /// the first. Bounds make none.
+    pub fn breaks(&self) -> &[Break]
+        ensures listed { result.now ≡ breaks_of self.now }
+        ensures kept { IsProfile self.now }
+    {
+        &self.breaks
     }
 
     /// The cap at a point, in (0.01 km/h)²: the least of the top speed, of all zones that bind there
@@ -125,8 +145,8 @@ impl Limits {
     }
 
     /// The cap at a point, in (0.01 km/h)², for a walk along the line that carries `level` with it. Where
-    /// the stretch has the point, its cap is at hand; else the limits are gone through, and `level`
-    /// becomes a stretch about the point, so a walk goes through them once a stretch.
+    /// the stretch has the point, its cap is at hand; else it is looked up, and `level` becomes the
+    /// stretch about the point, so a walk looks up one cap a stretch.
     pub fn cap_near(&self, point: u32, level: &mut Level) -> u32
         requires on_line { point ≤ self.now.length }
         requires level { IsLevel self.now level.old }
@@ -152,40 +172,48 @@ impl Limits {
         ensures level { IsLevel self.now result }
         ensures kept { IsProfile self.now }
     {
-        let zones = zones_stretch(self.length, self.train, &self.zones, point);
+        let zones = self.zoned_level(point);
         let bounds = bounds_stretch(self.length, &self.bounds, point);
         Level {
             from: zones.from.max(bounds.from),
             to: zones.to.min(bounds.to),
-            cap: self.least_at(point),
+            cap: bound_cap(zones.cap, &self.bounds, point),
+        }
+    }
+
+    // The stretch about a point from one break to the next.
+    fn zoned_level(&self, point: u32) -> Level
+        requires { point ≤ self.now.length }
+        ensures from { result.from ≤ point }
+        ensures to { point ≤ result.to }
+        ensures level { (i : ℕ) → result.from ≤ i → i ≤ result.to → zoned_at self.now.length
+            self.now.train self.now.top self.now.zones i ≡ result.cap }
+        ensures kept { IsProfile self.now }
+    {
+        let index = break_up_to(&self.breaks, point);
+        let here = self.breaks[index];
+        if index + 1 < self.breaks.len() {
+            return Level {
+                from: here.at,
+                to: self.breaks[index + 1].at - 1,
+                cap: here.most,
+            };
+        }
+        Level {
+            from: here.at,
+            to: self.length,
+            cap: here.most,
         }
     }
 
     // The least of what holds at a point.
     fn least_at(&self, point: u32) -> u32
+        requires { point ≤ self.now.length }
         ensures cap { result ≡ cap self.now point }
         ensures kept { IsProfile self.now }
     {
-        let zoned = zone_cap(self.length, self.train, self.top, &self.zones, point);
-        bound_cap(zoned, &self.bounds, point)
+        bound_cap(self.zoned_level(point).cap, &self.bounds, point)
     }
-}
-
-// The least of the top speed and of all zones that bind at a point.
-fn zone_cap(length: u32, train: u32, top: u32, zones: &[Zone], point: u32) -> u32
-    requires short { length ≤ 500000 }
-    requires train { train ≤ 5000 }
-    requires top { top ≤ 500 }
-    requires lie { All (LiesOn length) zones.now }
-    ensures { result ≡ least (squared top) (binding_at length train zones.now point) }
-{
-    let mut least = squared(top);
-    for zone in zones {
-        if binds_at(length, train, point, *zone) {
-            least = least.min(squared(zone.kmh));
-        }
-    }
-    least
 }
 
 // Points from one up to another.
@@ -193,55 +221,6 @@ fn zone_cap(length: u32, train: u32, top: u32, zones: &[Zone], point: u32) -> u3
 struct Stretch {
     from: u32,
     to: u32,
-}
-
-// A stretch about a point in which the same zones bind.
-fn zones_stretch(length: u32, train: u32, zones: &[Zone], point: u32) -> Stretch
-    requires short { length ≤ 500000 }
-    requires train { train ≤ 5000 }
-    requires on_line { point ≤ length }
-    requires lie { All (LiesOn length) zones.now }
-    ensures from { result.from ≤ point }
-    ensures to { point ≤ result.to }
-    ensures same { (i : ℕ) → result.from ≤ i → i ≤ result.to
-        → binding_at length train zones.now i ≡ binding_at length train zones.now point }
-{
-    let mut from = 0;
-    let mut to = length;
-    for zone in zones {
-        let stretch = zone_stretch(length, train, *zone, point);
-        from = stretch.from.max(from);
-        to = stretch.to.min(to);
-    }
-    Stretch { from, to }
-}
-
-// A stretch about a point in which a zone binds as it does there.
-fn zone_stretch(length: u32, train: u32, zone: Zone, point: u32) -> Stretch
-    requires short { zone.to + train < 2 ^ 32 - 1 }
-    requires on_line { point ≤ length }
-    ensures from { result.from ≤ point }
-    ensures to { point ≤ result.to }
-    ensures same { (i : ℕ) → result.from ≤ i → i ≤ result.to
-        → binds_at length train i zone ≡ binds_at length train point zone }
-{
-    let end = length.min(zone.to + train);
-    if point < zone.from {
-        Stretch {
-            from: 0,
-            to: zone.from - 1,
-        }
-    } else if point <= end {
-        Stretch {
-            from: zone.from,
-            to: end,
-        }
-    } else {
-        Stretch {
-            from: end + 1,
-            to: length,
-        }
-    }
 }
 
 // A stretch about a point in which the same bounds hold.
@@ -306,8 +285,8 @@ mod tests {
     use super::*;
     use std::test::Fail;
 
-    // The caps of a line of 300 m for a train of 50 m and 60 km/h, with a limit of 36 km/h from 100
-    // to 200, a stop at 20, and a bound at the end.
+    // The caps and the breaks of a line of 300 m for a train of 50 m and 60 km/h, with a limit of
+    // 36 km/h from 100 to 200, a stop at 20, and a bound at the end.
     #[test]
     fn caps(rt: HostRuntime) -> Result<(), Fail> {
         let zones = [Zone {
@@ -346,6 +325,39 @@ mod tests {
         assert_eq!(rt; limits.cap_near(250, &mut level), 12_960_000);
         assert_eq!(rt; limits.cap_near(251, &mut level), 36_000_000);
         assert_eq!(rt; limits.cap_near(20, &mut level), 0);
+        let breaks = [at(0, 36_000_000), at(100, 12_960_000), at(251, 36_000_000)];
+        assert!(rt; limits.breaks() == breaks.as_slice());
         Ok(())
+    }
+
+    // A limit of 2 km/h has the breaks of its reach, and one of 1 km/h in the same place hides it.
+    #[test]
+    fn breaks(rt: HostRuntime) -> Result<(), Fail> {
+        let zones = [
+            Zone {
+                from: 3,
+                to: 4,
+                kmh: 2,
+            },
+            Zone {
+                from: 3,
+                to: 4,
+                kmh: 1,
+            },
+        ];
+        let both = Limits::new(rt.alloc(), 10, 10, 60, &zones, &[]);
+        let one = Limits::new(rt.alloc(), 10, 10, 60, &zones[..1], &[]);
+        assert!(rt; both.is_ok());
+        assert!(rt; one.is_ok());
+        let (Ok(both), Ok(one)) = (both, one) else {
+            return Ok(());
+        };
+        assert!(rt; both.breaks() == [at(0, 36_000_000), at(3, 10_000)].as_slice());
+        assert!(rt; one.breaks() == [at(0, 36_000_000), at(3, 40_000)].as_slice());
+        Ok(())
+    }
+
+    fn at(at: u32, most: u32) -> Break {
+        Break { at, most }
     }
 }

@@ -1,9 +1,8 @@
-use Rattle.std.proofs.Common.{◌≡◌, subst}
-use Rattle.limit_profile.specs.Profile.{Profile, cap}
-use Rattle.limit_profile.proofs.CapFacts.{cap-least}
+use Rattle.std.proofs.Common.{refl, sym}
+use Rattle.limit_profile.proofs.CapFacts.{cap-level}
 use Rattle.limit_profile.proofs.Limits.least_at.Goals as goal
 
 pub returns-clause-cap : goal.returns-clause-cap
 returns-clause-cap c =
-    subst (λ (p : Profile). c.bound_cap.result ≡ cap p c.args.point) c.self.view_is
-    (cap-least _ c.args.point c.zone_cap-zoned.result c.bound_cap.result (rw c.deref.ensures.value at c.zone_cap-zoned.ensures) (rw c.deref-2.ensures.value at c.bound_cap.ensures))
+    let zones = c.zoned_level.ensures.level c.args.point c.zoned_level.ensures.from c.zoned_level.ensures.to in
+    rw (← c.self.view_is) (sym (cap-level _ c.args.point c.args.point c.zoned_level.result.cap c.bound_cap.result (rw (← c.self.view_is) at zones) refl (rw c.deref.ensures.value at c.bound_cap.ensures)))

@@ -1,0 +1,29 @@
+-- The caps of the zones as a list of breaks, the points from which they are others than before.
+use Rattle.std.specs.Prelude.{◌≡◌, ℕ, zero, suc, ◌+◌, ◌-◌, Bool, ◌||◌, ◌==◌, not, cond, List, [], ◌∷◌, ◌++◌}
+use Rattle.unit_rules.specs.declared.Zone.{Zone}
+use Rattle.run_rules.specs.Caps.{binding_at, least}
+use Rattle.run_rules.specs.Speeds.{squared}
+use Rattle.limit_profile.specs.declared.breaks.Break.{Break}
+use Rattle.limit_profile.specs.Profile.{IsProfile, Profile}
+
+-- the least of the top speed and of the zones that bind at a point
+abbrev pub zoned_at : ℕ → ℕ → ℕ → List Zone → ℕ → ℕ
+zoned_at length train top zones point = least (squared top) (binding_at length train zones point)
+
+-- whether the number of a point is another than that of the point before; point 0 has none before it
+abbrev pub begins : (ℕ → ℕ) → ℕ → Bool
+begins f point = (point == 0) || not (f (point - 1) == f point)
+
+-- the breaks below a point: each point at which another number begins, with that number
+abbrev pub breaks_below : (ℕ → ℕ) → ℕ → List Break
+breaks_below f zero = []
+breaks_below f (suc point) = breaks_below f point ++ cond (begins f point) (record { at = point; most = f point } ∷ []) []
+
+-- the breaks of the zones of a profile
+abbrev pub breaks_of : Profile → List Break
+breaks_of p = breaks_below (zoned_at p.length p.train p.top p.zones) (p.length + 1)
+
+-- limits as they are kept: a profile and the breaks of its zones
+pub record IsKept (p : Profile) (breaks : List Break) : Type 0 where
+  pub profile : IsProfile p
+  pub listed : breaks ≡ breaks_of p
