@@ -7,7 +7,7 @@ use Rattle.std.specs.Prelude.{slice_get}
 use Rattle.std.proofs.lemmas.Bool.Decides.{nat_tests}
 use Rattle.line_tables.specs.declared.table.Slope.{Slope}
 use Rattle.train_mean.specs.Gradients.{gradient_at, sum_from}
-use Rattle.train_mean.specs.Windows.{AreSlopes, IsAhead}
+use Rattle.train_mean.specs.Windows.{AreSlopes}
 
 -- slopes that begin after a cell don't tell its gradient
 pub gradient_at-before : (slopes : List Slope) (start cell : ℕ) → All (λ s. start ≤ s.from) slopes → cell < start → gradient_at slopes cell ≡ pos 0
@@ -17,11 +17,10 @@ gradient_at-before (s ∷ rest) start cell a h =
     let outside : (nat_le s.from cell && nat_lt cell s.to) ≡ false = grind (arith, nat_tests, here, h) in
     rw outside (gradient_at-before rest start cell (All-tail (λ s. start ≤ s.from) s rest a) h)
 
--- the gradient at a cell by the first slope, which ends after it
-pub gradient_at-first : (slopes : List Slope) (cell : ℕ) (first : Slope) → Some first ≡ slice_get slopes 0 → AreSlopes slopes → IsAhead cell slopes
-    → cell < first.from → gradient_at slopes cell ≡ pos 0
-gradient_at-first [] cell first e a h l = refl
-gradient_at-first (s ∷ rest) cell first e a h l =
+-- the gradient at a cell before the first slope
+pub gradient_at-first : (slopes : List Slope) (cell : ℕ) (first : Slope) → Some first ≡ slice_get slopes 0 → AreSlopes slopes → cell < first.from → gradient_at slopes cell ≡ pos 0
+gradient_at-first [] cell first e a l = refl
+gradient_at-first (s ∷ rest) cell first e a l =
     let same : first ≡ s = cc in
     let before : cell < s.from = rw same at l in
     let outside : (nat_le s.from cell && nat_lt cell s.to) ≡ false = grind (arith, nat_tests, before) in

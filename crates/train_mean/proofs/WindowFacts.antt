@@ -8,7 +8,7 @@ use Rattle.line_tables.specs.Slope.{Follows, SlopeLiesOn}
 use Rattle.line_tables.specs.Table.{IsLine, LineTable}
 use Rattle.line_tables.specs.declared.table.Slope.{Slope}
 use Rattle.train_mean.specs.Gradients.{gradient_at, gradients_under, sum_from, tail_cell}
-use Rattle.train_mean.specs.Windows.{AreSlopes, TellsFrom, gradient_left}
+use Rattle.train_mean.specs.Windows.{AreSlopes, Passes, TellsFrom, gradient_left}
 use Rattle.train_mean.proofs.GradientFacts.{sum_from-least, sum_from-most, sum_from-moved}
 use Rattle.train_mean.proofs.PullFacts.{IsMean}
 
@@ -63,6 +63,13 @@ sum-moved slopes head head' tail train cell sum entered left e f g h m n =
     let first : entered ≡ gradient_at slopes cell = m ∙ g cell (omega arith) ∙ f cell (omega arith) in
     let second : left ≡ gradient_left slopes train cell = n ∙ ap (λ (z : ℤ). cond (nat_le train cell) z (pos 0)) (h (cell - train) (omega arith)) in
     rw (e, first, second) (sum_from-moved (gradient_at slopes) train cell)
+
+-- a gradient that is passed has at most 32 bits
+pub SFits-passes : (gradient : ℕ → ℤ) (cell to : ℕ) (tenths : ℤ) → Passes gradient cell to tenths → SFits w32 tenths
+SFits-passes gradient cell to tenths p =
+    let least = p.least in
+    let most = p.most in
+    omega (arith, ints, least, most)
 
 -- a number of 64 bits is the sum of the gradients under the train, of at most 1000 tenths a metre
 pub record IsSumUnder (slopes : List Slope) (train cell : ℕ) (sum : ℤ) : Type 0 where

@@ -27,3 +27,9 @@ TellsFrom cell slopes left = (c : ℕ) → cell ≤ c → gradient_at left c ≡
 -- the gradient of the cell that the tail leaves as the head enters a cell
 abbrev pub gradient_left : List Slope → ℕ → ℕ → ℤ
 gradient_left slopes train cell = if nat_le train cell then gradient_at slopes (cell - train) else pos 0
+
+-- each cell from one up to another has one gradient, which is in range
+pub record Passes (gradient : ℕ → ℤ) (cell to : ℕ) (tenths : ℤ) : Type 0 where
+  pub steady : (c : ℕ) → cell ≤ c → c < to → tenths ≡ gradient c
+  pub least : neg_ℤ (pos 1000) ≤ℤ tenths
+  pub most : tenths ≤ℤ pos 1000

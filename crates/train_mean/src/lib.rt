@@ -1,10 +1,10 @@
 //! The gradient under a train: its mean over the train's length, and the pull that it makes.
 #![tactic(auto)]
 
-ghost use Rattle.std.specs.Prelude.{◌≡◌, ◌*◌, ◌-◌, ◌≤◌, ℕ, pos, neg_ℤ, ◌≤ℤ◌, ◌+ℤ◌, ◌-ℤ◌, All, IfOk};
+ghost use Rattle.std.specs.Prelude.{◌≡◌, ◌*◌, ◌-◌, ◌≤◌, ◌<◌, ℕ, pos, neg_ℤ, ◌≤ℤ◌, ◌+ℤ◌, ◌-ℤ◌, All, IfOk};
 ghost use Rattle.run_rules.specs.Steps.{IsPull};
 ghost use Rattle.train_mean.specs.Gradients.{gradient_at, pull_of, pulls_of};
-ghost use Rattle.train_mean.specs.Windows.{AreSlopes, IsAhead, TellsFrom, gradient_left};
+ghost use Rattle.train_mean.specs.Windows.{AreSlopes, IsAhead, Passes, TellsFrom, gradient_left};
 
 use line_tables::{Line, Slope};
 use std::alloc::Global;
@@ -23,7 +23,12 @@ pub fn pulls(alloc: Global, line: &Line, mass: u32, train: u32) -> Result<Vec<i6
     ensures small { IfOk result (λ pulls. All IsPull pulls.items) }
 {
     let length = line.length();
-    let (mut head, mut tail, mut sum) = (line.slopes(), line.slopes(), 0);
+    let start = TrainEnd {
+        slopes: line.slopes(),
+        tenths: 0,
+        to: 0,
+    };
+    let (mut head, mut tail, mut sum) = (start, start, 0);
     let mut under = Under {
         sum: 0,
         pull: pull(mass, train, 0),
@@ -32,16 +37,72 @@ pub fn pulls(alloc: Global, line: &Line, mass: u32, train: u32) -> Result<Vec<i6
         return Err(Memory);
     };
     for cell in 0..length {
-        head = skip_passed(head, cell);
-        let (left, behind) = leave(tail, train, cell);
-        tail = left;
-        sum = moved_sum(sum, gradient_in(head, cell), behind);
+        head = move_head(head, cell);
+        tail = move_tail(tail, train, cell);
+        sum = moved_sum(sum, head.tenths, tail.tenths);
         under = pulled(mass, train, under, sum);
         let Ok(()) = pulls.push(under.pull) else {
             return Err(Memory);
         };
     }
     Ok(pulls)
+}
+
+// One end of a train on its way: the slopes that are still ahead of it, the gradient of the cell that
+// it passes, in tenths of a per mille, and the cell up to which it passes that gradient.
+#[derive(Clone, Copy)]
+struct TrainEnd<'a> {
+    slopes: &'a [Slope],
+    tenths: i32,
+    to: u32,
+}
+
+// The head of a train as it enters a cell; the slopes are looked at only where the gradient may change.
+fn move_head<'a>(head: TrainEnd<'a>, cell: u32) -> TrainEnd<'a>
+    requires small { cell < 4294967295 }
+    requires slopes { AreSlopes head.slopes.now }
+    requires passes { Passes (gradient_at head.slopes.now) cell head.to head.tenths }
+    ensures slopes { AreSlopes result.slopes.now }
+    ensures tells { TellsFrom cell head.entry.slopes.now result.slopes.now }
+    ensures passes { Passes (gradient_at result.slopes.now) cell result.to result.tenths }
+    ensures ahead { cell < result.to }
+{
+    if cell < head.to {
+        return head;
+    }
+    let slopes = skip_passed(head.slopes, cell);
+    let (tenths, to) = gradient_in(slopes, cell);
+    TrainEnd { slopes, tenths, to }
+}
+
+// The tail of a train as its head enters a cell: it passes the gradient of the cell that it leaves, and
+// 0 where it leaves none.
+fn move_tail<'a>(tail: TrainEnd<'a>, train: u32, cell: u32) -> TrainEnd<'a>
+    requires small { cell < 4294967295 }
+    requires slopes { AreSlopes tail.slopes.now }
+    requires passes { Passes (gradient_left tail.slopes.now train) cell tail.to tail.tenths }
+    ensures slopes { AreSlopes result.slopes.now }
+    ensures tells { TellsFrom (cell - train) tail.entry.slopes.now result.slopes.now }
+    ensures passes { Passes (gradient_left result.slopes.now train) cell result.to result.tenths }
+    ensures ahead { cell < result.to }
+{
+    if cell < tail.to {
+        return tail;
+    }
+    if cell < train {
+        return TrainEnd {
+            slopes: tail.slopes,
+            tenths: 0,
+            to: train,
+        };
+    }
+    let slopes = skip_passed(tail.slopes, cell - train);
+    let (tenths, to) = gradient_in(slopes, cell - train);
+    TrainEnd {
+        slopes,
+        tenths,
+        to: to.saturating_add(train),
+    }
 }
 
 // The sum of the gradients under a train, in tenths of a per mille, and its pull.
@@ -89,35 +150,24 @@ fn skip_passed(slopes: &[Slope], cell: u32) -> &[Slope]
     left
 }
 
-// The gradient at a cell, by the slopes that end after it.
-fn gradient_in(slopes: &[Slope], cell: u32) -> i32
+// The gradient at a cell, by the slopes that end after it, and the cell up to which it lasts.
+fn gradient_in(slopes: &[Slope], cell: u32) -> (i32, u32)
+    requires small { cell < 4294967295 }
     requires slopes { AreSlopes slopes.now }
     requires ahead { IsAhead cell slopes.now }
-    ensures gradient { result ≡ gradient_at slopes.now cell }
-    ensures least { neg_ℤ (pos 1000) ≤ℤ result }
-    ensures most { result ≤ℤ pos 1000 }
+    ensures passes { Passes (gradient_at slopes.now) cell result.1 result.0 }
+    ensures ahead { cell < result.1 }
 {
     match slopes.first() {
-        Some(first) => { if first.from <= cell { first.tenths } else { 0 } }
-        None => 0,
+        Some(first) => {
+            if first.from <= cell {
+                (first.tenths, first.to)
+            } else {
+                (0, first.from)
+            }
+        }
+        None => (0, u32::MAX),
     }
-}
-
-// The gradient of the cell that a train's tail leaves as its head enters a cell, and 0 where it
-// leaves none, with the slopes that are left for the next.
-fn leave<'a>(slopes: &'a [Slope], train: u32, cell: u32) -> (&'a [Slope], i32)
-    requires { AreSlopes slopes.now }
-    ensures gradient { result.1 ≡ gradient_left slopes.now train cell }
-    ensures least { neg_ℤ (pos 1000) ≤ℤ result.1 }
-    ensures most { result.1 ≤ℤ pos 1000 }
-    ensures tells { TellsFrom (cell - train) slopes.now result.0.now }
-    ensures slopes { AreSlopes result.0.now }
-{
-    if cell < train {
-        return (slopes, 0);
-    }
-    let left = skip_passed(slopes, cell - train);
-    (left, gradient_in(left, cell - train))
 }
 
 // The sum of the gradients under a train, as its head enters a cell and its tail leaves one.

@@ -1,7 +1,12 @@
-use Rattle.std.proofs.Common.{sym}
+use Rattle.std.proofs.Common.{arith, sym}
+use Rattle.std.proofs.lemmas.Int.{ints}
 use Rattle.train_mean.proofs.GradientFacts.{gradient_at-first}
 use Rattle.train_mean.proofs.gradient_in.Goals as goal
 
-pub returns-else-first-cell-clause-gradient : goal.returns-else-first-cell-clause-gradient
-returns-else-first-cell-clause-gradient c =
-    sym (gradient_at-first c.args.slopes.now c.args.cell c.in-Some.first.now c.in-Some.ensures.value c.requires.slopes c.requires.ahead c.if-first-cell.false)
+pub returns-else-first-cell-clause-passes : goal.returns-else-first-cell-clause-passes
+returns-else-first-cell-clause-passes c =
+    record {
+      steady = λ cell h k. sym (gradient_at-first c.args.slopes.now cell c.in-Some.first.now c.in-Some.ensures.value c.requires.slopes k);
+      least = omega (arith, ints);
+      most = omega (arith, ints);
+    }

@@ -5,7 +5,7 @@ use Rattle.std.proofs.lemmas.List.Elements.{All-nil, All-push}
 use Rattle.std.proofs.lemmas.List.FromFn.{map-range_with_len_more}
 use Rattle.run_rules.specs.Steps.{IsPull}
 use Rattle.train_mean.specs.Gradients.{gradients_under, pull_of}
-use Rattle.train_mean.proofs.WindowFacts.{AreSlopes-line, IsMean-under, IsSumUnder-moved}
+use Rattle.train_mean.proofs.WindowFacts.{AreSlopes-line, IsMean-under, IsSumUnder-moved, SFits-passes}
 use Rattle.train_mean.proofs.pulls.Goals as goal
 
 pub loop-cell-init : goal.loop-cell-init
@@ -15,10 +15,12 @@ loop-cell-init c =
     let first = c.pull.ensures.small in
     let first_fits : SFits w64 c.pull.result = omega (arith, ints, first.least, first.most) in
     record {
-      head_tells = λ k h. rw c.slopes-head.ensures refl;
-      head_slopes = rw c.slopes-head.ensures slopes;
-      tail_tells = λ k h. rw c.slopes-tail.ensures refl;
-      tail_slopes = rw c.slopes-tail.ensures slopes;
+      head_tells = λ k h. rw c.slopes.ensures refl;
+      head_slopes = rw c.slopes.ensures slopes;
+      head_passes = record { steady = λ k h l. absurd (omega arith); least = omega (arith, ints); most = omega (arith, ints) };
+      tail_tells = λ k h. rw c.slopes.ensures refl;
+      tail_slopes = rw c.slopes.ensures slopes;
+      tail_passes = record { steady = λ k h l. absurd (omega arith); least = omega (arith, ints); most = omega (arith, ints) };
       sum = rw none refl;
       pulls = c.in-Ok.ensures.items;
       pulled = simp to_z-of_z c.pull.ensures.pull;
@@ -41,33 +43,47 @@ moved_sum-sum-requires-clause-most c =
 
 pub pulled-under-requires-clause-least : goal.pulled-under-requires-clause-least
 pulled-under-requires-clause-least c =
-    let under = IsSumUnder-moved c.args.line.now.slopes c.loop-cell.head.now c.skip_passed-head.result.now c.loop-cell.tail.now c.args.train c.loop-cell.cell _ c.gradient_in.result c.leave-behind.result.1
-    c.moved_sum-sum.result (AreSlopes-line c.args.line.now c.length-length.ensures.kept) c.requires.train_most (omega (arith, ints)) (omega (arith, ints)) c.moved_sum-sum.ensures.sum
-    c.loop-cell.invariant.sum c.loop-cell.invariant.head_tells c.skip_passed-head.ensures.tells c.loop-cell.invariant.tail_tells c.gradient_in.ensures.gradient c.leave-behind.ensures.gradient in
+    let head = c.move_head-head.ensures.passes in
+    let tail = c.move_tail-tail.ensures.passes in
+    let under = IsSumUnder-moved c.args.line.now.slopes c.loop-cell.head.slopes.now c.move_head-head.result.slopes.now c.move_tail-tail.result.slopes.now c.args.train c.loop-cell.cell _
+    c.move_head-head.result.tenths c.move_tail-tail.result.tenths c.moved_sum-sum.result (AreSlopes-line c.args.line.now c.length-length.ensures.kept) c.requires.train_most
+    (SFits-passes _ _ _ _ head) (SFits-passes _ _ _ _ tail) c.moved_sum-sum.ensures.sum c.loop-cell.invariant.sum c.loop-cell.invariant.head_tells c.move_head-head.ensures.tells
+    (λ k h. c.move_tail-tail.ensures.tells k h ∙ c.loop-cell.invariant.tail_tells k h)
+    (head.steady c.loop-cell.cell (omega arith) c.move_head-head.ensures.ahead) (tail.steady c.loop-cell.cell (omega arith) c.move_tail-tail.ensures.ahead) in
     under.mean.least
 
 pub pulled-under-requires-clause-most : goal.pulled-under-requires-clause-most
 pulled-under-requires-clause-most c =
-    let under = IsSumUnder-moved c.args.line.now.slopes c.loop-cell.head.now c.skip_passed-head.result.now c.loop-cell.tail.now c.args.train c.loop-cell.cell _ c.gradient_in.result c.leave-behind.result.1
-    c.moved_sum-sum.result (AreSlopes-line c.args.line.now c.length-length.ensures.kept) c.requires.train_most (omega (arith, ints)) (omega (arith, ints)) c.moved_sum-sum.ensures.sum
-    c.loop-cell.invariant.sum c.loop-cell.invariant.head_tells c.skip_passed-head.ensures.tells c.loop-cell.invariant.tail_tells c.gradient_in.ensures.gradient c.leave-behind.ensures.gradient in
+    let head = c.move_head-head.ensures.passes in
+    let tail = c.move_tail-tail.ensures.passes in
+    let under = IsSumUnder-moved c.args.line.now.slopes c.loop-cell.head.slopes.now c.move_head-head.result.slopes.now c.move_tail-tail.result.slopes.now c.args.train c.loop-cell.cell _
+    c.move_head-head.result.tenths c.move_tail-tail.result.tenths c.moved_sum-sum.result (AreSlopes-line c.args.line.now c.length-length.ensures.kept) c.requires.train_most
+    (SFits-passes _ _ _ _ head) (SFits-passes _ _ _ _ tail) c.moved_sum-sum.ensures.sum c.loop-cell.invariant.sum c.loop-cell.invariant.head_tells c.move_head-head.ensures.tells
+    (λ k h. c.move_tail-tail.ensures.tells k h ∙ c.loop-cell.invariant.tail_tells k h)
+    (head.steady c.loop-cell.cell (omega arith) c.move_head-head.ensures.ahead) (tail.steady c.loop-cell.cell (omega arith) c.move_tail-tail.ensures.ahead) in
     under.mean.most
 
 pub loop-cell-preserved : goal.loop-cell-preserved
 loop-cell-preserved c =
-    let under = IsSumUnder-moved c.args.line.now.slopes c.loop-cell.head.now c.skip_passed-head.result.now c.loop-cell.tail.now c.args.train c.loop-cell.cell _ c.gradient_in.result c.leave-behind.result.1
-    c.moved_sum-sum.result (AreSlopes-line c.args.line.now c.length-length.ensures.kept) c.requires.train_most (omega (arith, ints)) (omega (arith, ints)) c.moved_sum-sum.ensures.sum
-    c.loop-cell.invariant.sum c.loop-cell.invariant.head_tells c.skip_passed-head.ensures.tells c.loop-cell.invariant.tail_tells c.gradient_in.ensures.gradient c.leave-behind.ensures.gradient in
+    let head = c.move_head-head.ensures.passes in
+    let tail = c.move_tail-tail.ensures.passes in
+    let under = IsSumUnder-moved c.args.line.now.slopes c.loop-cell.head.slopes.now c.move_head-head.result.slopes.now c.move_tail-tail.result.slopes.now c.args.train c.loop-cell.cell _
+    c.move_head-head.result.tenths c.move_tail-tail.result.tenths c.moved_sum-sum.result (AreSlopes-line c.args.line.now c.length-length.ensures.kept) c.requires.train_most
+    (SFits-passes _ _ _ _ head) (SFits-passes _ _ _ _ tail) c.moved_sum-sum.ensures.sum c.loop-cell.invariant.sum c.loop-cell.invariant.head_tells c.move_head-head.ensures.tells
+    (λ k h. c.move_tail-tail.ensures.tells k h ∙ c.loop-cell.invariant.tail_tells k h)
+    (head.steady c.loop-cell.cell (omega arith) c.move_head-head.ensures.ahead) (tail.steady c.loop-cell.cell (omega arith) c.move_tail-tail.ensures.ahead) in
     let more = map-range_with_len_more (λ cell. pull_of c.args.mass c.args.train (gradients_under c.args.line.now.slopes c.args.train cell)) 0 c.loop-cell.cell c.loop-cell.cell (omega arith) in
     let value = rw under.value at c.pulled-under.ensures.pull in
     let small = c.pulled-under.ensures.small in
     let fits : SFits w64 c.pulled-under.result.pull = omega (arith, ints, small.least, small.most) in
     let items : c.push.new.self.items ≡ c.loop-cell.pulls.items ++ c.pulled-under.result.pull ∷ [] = simp to_z-of_z at c.in-Ok-push.ensures.items in
     record {
-      head_tells = λ k h. c.skip_passed-head.ensures.tells k (omega arith) ∙ c.loop-cell.invariant.head_tells k (omega arith);
-      head_slopes = c.skip_passed-head.ensures.slopes;
-      tail_tells = λ k h. c.leave-behind.ensures.tells k (omega arith) ∙ c.loop-cell.invariant.tail_tells k (omega arith);
-      tail_slopes = c.leave-behind.ensures.slopes;
+      head_tells = λ k h. c.move_head-head.ensures.tells k (omega arith) ∙ c.loop-cell.invariant.head_tells k (omega arith);
+      head_slopes = c.move_head-head.ensures.slopes;
+      head_passes = record { steady = λ k h l. head.steady k (omega arith) l; least = head.least; most = head.most };
+      tail_tells = λ k h. c.move_tail-tail.ensures.tells k (omega arith) ∙ c.loop-cell.invariant.tail_tells k (omega arith);
+      tail_slopes = c.move_tail-tail.ensures.slopes;
+      tail_passes = record { steady = λ k h l. tail.steady k (omega arith) l; least = tail.least; most = tail.most };
       sum = under.value;
       pulled = rw c.pulled-under.ensures.sum c.pulled-under.ensures.pull;
       pulls = rw (items, more, value, c.loop-cell.invariant.pulls) refl;
