@@ -126,7 +126,8 @@ fn put_points(block: &mut Block, numbers: &[u32], from: usize, to: usize)
     requires ordered { from ≤ to }
     requires few { to ≤ from + LINES }
     requires listed { to ≤ length numbers.now }
-    ensures { block.new ≡ lines_from (λ i. point_line i (slice_index numbers.now i)) from (to - from) }
+    ensures { block.new
+        ≡ lines_from (λ i. point_line i (slice_index numbers.now i)) from (to - from) }
 {
     for point in (from..to).rev() {
         put_point(block, point as u64, numbers[point]);
