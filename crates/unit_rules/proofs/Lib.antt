@@ -1,4 +1,5 @@
 pub mod DigitFacts
+pub mod DivisorFacts
 pub mod FloorFacts
 pub mod RootFacts
 pub mod WholeFacts

@@ -3,3 +3,4 @@ pub mod Numeral
 pub mod Quotients
 pub mod Roots
 pub mod Zone
+pub mod Divisors

@@ -3,10 +3,12 @@
 #![tactic(auto)]
 
 mod counter;
+mod divisors;
 mod numerals;
 mod quotients;
 
 pub use counter::Steps;
+pub use divisors::Divisor;
 pub use numerals::{number_in, read_whole, signed_within, within};
 pub use quotients::{div_ceil, div_floor};
 
