@@ -1,5 +1,5 @@
 -- How fast the values of a table may change from one speed to the next.
-use Rattle.std.specs.Prelude.{ℕ, ◌*◌, ◌+◌, ◌^◌, ◌≤◌, ◌<◌, Bool, ℤ, pos, neg_ℤ, ◌-ℤ◌, ◌≤ℤ◌, int_le, List, length}
+use Rattle.std.specs.Prelude.{◌≡◌, ℕ, ◌*◌, ◌+◌, ◌^◌, ◌≤◌, ◌<◌, Bool, ℤ, pos, neg_ℤ, ◌-ℤ◌, ◌≤ℤ◌, int_le, List, length}
 use Rattle.run_rules.specs.Grids.{row, top_of, band_width}
 use Rattle.table_laws.specs.declared.Law.{Law}
 use Rattle.table_laws.specs.declared.Law.TheVariants.{Drop, Climb}
@@ -47,6 +47,11 @@ pub record IsTable (rows : List ℤ) : Type 0 where
   pub few : length rows ≤ 501
   pub most : (k : ℕ) → k ≤ top_of rows → row rows k ≤ℤ pos (10 ^ 15)
   pub least : (k : ℕ) → k ≤ top_of rows → neg_ℤ (pos (10 ^ 15)) ≤ℤ row rows k
+
+-- the least of the values at whole km/h
+pub record IsLeastRow (rows : List ℤ) (least : ℤ) : Type 0 where
+  pub each : (k : ℕ) → k ≤ top_of rows → least ≤ℤ row rows k
+  pub some : (k : ℕ) × (k ≤ top_of rows) × (least ≡ row rows k)
 
 -- what contracts see of bands: the values by whole km/h, and their law
 pub record Table : Type 0 where

@@ -6,61 +6,41 @@ ghost use Rattle.run_rules.specs.Grids.{row, top_of, band_width, value_between, 
 ghost use Rattle.run_rules.specs.Speeds.{squared};
 ghost use Rattle.table_laws.specs.Laws.{IsTable};
 
-use unit_rules::div_floor;
+use crate::near::Near;
+use unit_rules::{Divisor, div_floor};
 
 /// The greatest rise from one whole km/h to the next whose parts are computed in 64 bits: times
 /// the width of any band it fits an `i64`.
 const SMALL_RISE: u64 = 900_000_000_000;
 
-// Where a squared speed lies: `part` of the `all` squared speeds from `kmh` to the next.
-#[derive(Drop)]
-struct Place {
-    kmh: u32,
-    part: u32,
-    all: u32,
-}
-
-/// The value at a squared speed of the table with the value `rows[k]` at `k` km/h.
-pub fn value_in(rows: &[i64], u: u32) -> i64
+/// The value at a squared speed, of the table with the value `rows[k]` at `k` km/h. It is found
+/// sooner where `near` is where the squared speed lies, which it then becomes.
+pub fn value_near(rows: &[i64], u: u32, near: &mut Near) -> i64
     requires table { IsTable rows.now }
     requires on_table { u ≤ squared (top_of rows.now) }
     ensures value { result ≡ value_at rows.now u }
     ensures most { result ≤ℤ pos (10 ^ 15) }
     ensures least { neg_ℤ (pos (10 ^ 15)) ≤ℤ result }
 {
-    let place = place_of(u);
-    let low = rows[place.kmh as usize];
-    if place.part == 0 {
+    let part = near.move_to(u);
+    let kmh = near.kmh() as usize;
+    let low = rows[kmh];
+    if part == 0 {
         return low;
     }
-    value_between(low, rows[place.kmh as usize + 1], place.part, place.all)
-}
-
-fn place_of(u: u32) -> Place
-    requires { u ≤ 2500000000 }
-    ensures place { u ≡ squared result.kmh + result.part }
-    ensures inside { result.part < result.all }
-    ensures width { result.all ≡ band_width result.kmh }
-    ensures slow { result.kmh ≤ 500 }
-{
-    let kmh = (u / 10_000).isqrt();
-    Place {
-        kmh,
-        part: u - 10_000 * (kmh * kmh),
-        all: 10_000 * (2 * kmh + 1),
-    }
+    value_between(low, rows[kmh + 1], part, near.width())
 }
 
 // The value that many parts of all on the way from one to the other, rounded down.
-fn value_between(low: i64, high: i64, part: u32, all: u32) -> i64
+fn value_between(low: i64, high: i64, part: u32, all: &Divisor) -> i64
     requires low_most { low ≤ℤ pos (10 ^ 15) }
     requires low_least { neg_ℤ (pos (10 ^ 15)) ≤ℤ low }
     requires high_most { high ≤ℤ pos (10 ^ 15) }
     requires high_least { neg_ℤ (pos (10 ^ 15)) ≤ℤ high }
-    requires inside { part ≤ all }
-    requires some { 0 < all }
-    requires few { all ≤ 10010000 }
-    ensures value { result ≡ value_between low high part all }
+    requires inside { part ≤ all.now }
+    requires some { 0 < all.now }
+    requires few { all.now ≤ 10010000 }
+    ensures value { result ≡ value_between low high part all.now }
     ensures most { result ≤ℤ pos (10 ^ 15) }
     ensures least { neg_ℤ (pos (10 ^ 15)) ≤ℤ result }
 {
@@ -68,13 +48,13 @@ fn value_between(low: i64, high: i64, part: u32, all: u32) -> i64
 }
 
 // That many parts of all of a rise, rounded down.
-fn part_of(rise: i64, part: u32, all: u32) -> i64
+fn part_of(rise: i64, part: u32, all: &Divisor) -> i64
     requires most { rise ≤ℤ pos (2 * 10 ^ 15) }
     requires least { neg_ℤ (pos (2 * 10 ^ 15)) ≤ℤ rise }
-    requires inside { part ≤ all }
-    requires some { 0 < all }
-    requires few { all ≤ 10010000 }
-    ensures { result ≡ floor_div (rise *ℤ pos part) all }
+    requires inside { part ≤ all.now }
+    requires some { 0 < all.now }
+    requires few { all.now ≤ 10010000 }
+    ensures { result ≡ floor_div (rise *ℤ pos part) all.now }
 {
     if rise.unsigned_abs() <= SMALL_RISE {
         small_part_of(rise, part, all)
@@ -83,23 +63,26 @@ fn part_of(rise: i64, part: u32, all: u32) -> i64
     }
 }
 
-fn small_part_of(rise: i64, part: u32, all: u32) -> i64
+fn small_part_of(rise: i64, part: u32, all: &Divisor) -> i64
     requires small { unsigned_abs rise ≤ 900000000000 }
-    requires inside { part ≤ all }
-    requires some { 0 < all }
-    requires few { all ≤ 10010000 }
-    ensures { result ≡ floor_div (rise *ℤ pos part) all }
+    requires inside { part ≤ all.now }
+    requires some { 0 < all.now }
+    requires few { all.now ≤ 10010000 }
+    ensures { result ≡ floor_div (rise *ℤ pos part) all.now }
 {
-    (rise * i64::from(part)).div_euclid(i64::from(all))
+    all.floor(rise * i64::from(part))
 }
 
-fn large_part_of(rise: i64, part: u32, all: u32) -> i64
+fn large_part_of(rise: i64, part: u32, all: &Divisor) -> i64
     requires most { rise ≤ℤ pos (2 * 10 ^ 15) }
     requires least { neg_ℤ (pos (2 * 10 ^ 15)) ≤ℤ rise }
-    requires inside { part ≤ all }
-    requires some { 0 < all }
-    requires few { all ≤ 10010000 }
-    ensures { result ≡ floor_div (rise *ℤ pos part) all }
+    requires inside { part ≤ all.now }
+    requires some { 0 < all.now }
+    requires few { all.now ≤ 10010000 }
+    ensures { result ≡ floor_div (rise *ℤ pos part) all.now }
 {
-    div_floor(i128::from(rise) * i128::from(part), i128::from(all)) as i64
+    div_floor(
+        i128::from(rise) * i128::from(part),
+        i128::from(all.number()),
+    ) as i64
 }

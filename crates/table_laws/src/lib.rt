@@ -5,11 +5,13 @@
 ghost use Rattle.std.specs.Prelude.{◌≡◌, ℕ, ◌+◌, ◌*◌, ◌^◌, ◌<◌, ◌≤◌, pos, neg_ℤ, ◌≤ℤ◌, ◌↔◌, IsTrue, IfOk, OnOk, IfErr};
 ghost use Rattle.run_rules.specs.Grids.{row, top_of, band_width, value_at};
 ghost use Rattle.run_rules.specs.Speeds.{squared};
-ghost use Rattle.table_laws.specs.Laws.{IsTable, IsLawful, IsFirstBreak, KeepsLaw, MovesWithin, broken_at};
+ghost use Rattle.table_laws.specs.Laws.{IsTable, IsLawful, IsFirstBreak, IsLeastRow, KeepsLaw, MovesWithin, broken_at};
 
 mod grid;
+mod near;
 
-use grid::value_in;
+use grid::value_near;
+pub use near::Near;
 use std::marker::Model;
 
 /// How fast the values of a table may change from one squared speed to the next.
@@ -106,8 +108,46 @@ impl Bands {
         ensures least { neg_ℤ (pos (10 ^ 15)) ≤ℤ result }
         ensures kept { IsLawful self.now }
     {
-        value_in(&self.rows, u)
+        value_near(&self.rows, u, &mut Near::new())
     }
+
+    /// The same value as [`Bands::at`], found sooner where `near` is where `u` lies, which it then
+    /// becomes.
+    pub fn at_near(&self, u: u32, near: &mut Near) -> i64
+        requires { u ≤ squared (top_of self.now.rows) }
+        ensures value { result ≡ value_at self.now.rows u }
+        ensures most { result ≤ℤ pos (10 ^ 15) }
+        ensures least { neg_ℤ (pos (10 ^ 15)) ≤ℤ result }
+        ensures kept { IsLawful self.now }
+    {
+        value_near(&self.rows, u, near)
+    }
+
+    /// The least value at a whole number of km/h. No value of the table is below it.
+    pub fn least(&self) -> i64
+        ensures row { IsLeastRow self.now.rows result }
+        ensures least { (u : ℕ) → u ≤ squared (top_of self.now.rows)
+            → result ≤ℤ value_at self.now.rows u }
+        ensures row_most { result ≤ℤ pos (10 ^ 15) }
+        ensures row_least { neg_ℤ (pos (10 ^ 15)) ≤ℤ result }
+        ensures kept { IsLawful self.now }
+    {
+        least_of(&self.rows)
+    }
+}
+
+// The least value at a whole number of km/h.
+fn least_of(rows: &[i64]) -> i64
+    requires { IsTable rows.now }
+    ensures { IsLeastRow rows.now result }
+{
+    let mut least = rows[0];
+    for k in 1..rows.len() {
+        if rows[k] < least {
+            least = rows[k];
+        }
+    }
+    least
 }
 
 // Whether the values keep the law from `k` km/h to the next.
@@ -137,6 +177,7 @@ fn room_of(k: u32, per: u32) -> u64
 #[cfg(test)]
 mod tests {
     use super::*;
+    use run_rules::squared;
     use std::test::Fail;
 
     fn first_break(rows: Vec<i64>, law: Law) -> Option<u32>
@@ -167,13 +208,37 @@ mod tests {
         Ok(())
     }
 
+    // Whether a walk from speed to speed finds these values, and a look at each alone too.
+    fn finds(bands: &Bands, speeds: &[u32], values: &[i64]) -> bool {
+        let most = squared(bands.top());
+        let mut near = Near::new();
+        for k in 0..speeds.len().min(values.len()) {
+            let u = speeds[k].min(most);
+            if bands.at_near(u, &mut near) != values[k] || bands.at(u) != values[k] {
+                return false;
+            }
+        }
+        true
+    }
+
     #[test]
     fn values_between_whole_speeds(rt: HostRuntime) -> Result<(), Fail> {
         let effort = Law::Drop { per: 259200 };
         let bands = Bands::new(vec![in rt.alloc(); 2592000000, 0]?, effort).expect(&rt, "lawful");
-        let top = bands.top();
-        assert!(rt; top == 1 && bands.law() == effort && bands.row(0) == 2592000000);
-        assert!(rt; [bands.at(0), bands.at(5000), bands.at(10000)] == [2592000000, 1296000000, 0]);
+        assert!(rt; bands.top() == 1 && bands.law() == effort && bands.row(0) == 2592000000);
+        assert!(rt; finds(&bands, &[0, 5000, 10000], &[2592000000, 1296000000, 0]));
+        Ok(())
+    }
+
+    #[test]
+    fn values_up_and_down(rt: HostRuntime) -> Result<(), Fail> {
+        let bands = Bands::new(vec![in rt.alloc(); 100, -1, 7]?, Law::Climb).expect(&rt, "lawful");
+        assert!(rt; bands.least() == -1);
+        let speeds = [
+            0, 5000, 10000, 25000, 40000, 39999, 10000, 9999, 5000, 40000, 0,
+        ];
+        let values = [100, 49, -1, 3, 7, 6, -1, -1, 49, 7, 100];
+        assert!(rt; finds(&bands, &speeds, &values));
         Ok(())
     }
 }
