@@ -8,7 +8,7 @@ ghost use Rattle.train_mean.specs.Windows.{AreSlopes, IsAhead, Passes, TellsFrom
 
 use line_tables::{Line, Slope};
 use std::alloc::Global;
-use unit_rules::Memory;
+use unit_rules::{Divisor, Memory};
 
 /// The pull at each cell of a line on a train of `mass` kg and `train` metres whose head is there, in
 /// the units of push: `ceil(mass·S·158922/(625·train))`, with `S` the sum of the gradients of the
@@ -29,9 +29,10 @@ pub fn pulls(alloc: Global, line: &Line, mass: u32, train: u32) -> Result<Vec<i6
         to: 0,
     };
     let (mut head, mut tail, mut sum) = (start, start, 0);
+    let divisor = Divisor::new(625 * train as u64);
     let mut under = Under {
         sum: 0,
-        pull: pull(mass, train, 0),
+        pull: pull(mass, train, &divisor, 0),
     };
     let Ok(mut pulls) = Vec::with_capacity(alloc, length as usize) else {
         return Err(Memory);
@@ -40,7 +41,7 @@ pub fn pulls(alloc: Global, line: &Line, mass: u32, train: u32) -> Result<Vec<i6
         head = move_head(head, cell);
         tail = move_tail(tail, train, cell);
         sum = moved_sum(sum, head.tenths, tail.tenths);
-        under = pulled(mass, train, under, sum);
+        under = pulled(mass, train, &divisor, under, sum);
         let Ok(()) = pulls.push(under.pull) else {
             return Err(Memory);
         };
@@ -113,10 +114,11 @@ struct Under {
 }
 
 // A sum with its pull, which is known where the sum is as before, as in most cells.
-fn pulled(mass: u32, train: u32, before: Under, sum: i64) -> Under
+fn pulled(mass: u32, train: u32, divisor: &Divisor, before: Under, sum: i64) -> Under
     requires mass { mass ≤ 20000000 }
     requires train_least { 1 ≤ train }
     requires train_most { train ≤ 5000 }
+    requires divisor { divisor.now ≡ 625 * train }
     requires before { before.pull ≡ pull_of mass train before.sum }
     requires least { neg_ℤ (pos (1000 * train)) ≤ℤ sum }
     requires most { sum ≤ℤ pos (1000 * train) }
@@ -129,7 +131,7 @@ fn pulled(mass: u32, train: u32, before: Under, sum: i64) -> Under
     }
     Under {
         sum,
-        pull: pull(mass, train, sum),
+        pull: pull(mass, train, divisor, sum),
     }
 }
 
@@ -185,22 +187,22 @@ fn moved_sum(sum: i64, entered: i32, left: i32) -> i64
     sum + entered as i64 - left as i64
 }
 
-// The pull of a sum of gradients under a train.
-fn pull(mass: u32, train: u32, sum: i64) -> i64
+// The pull of a sum of gradients under a train, by the divisor that its length makes.
+fn pull(mass: u32, train: u32, divisor: &Divisor, sum: i64) -> i64
     requires mass { mass ≤ 20000000 }
     requires train_least { 1 ≤ train }
     requires train_most { train ≤ 5000 }
+    requires divisor { divisor.now ≡ 625 * train }
     requires least { neg_ℤ (pos (1000 * train)) ≤ℤ sum }
     requires most { sum ≤ℤ pos (1000 * train) }
     ensures pull { result ≡ pull_of mass train sum }
     ensures small { IsPull result }
 {
     let size = mass as u64 * sum.unsigned_abs() * 158_922;
-    let divisor = 625 * train as u64;
     if sum < 0 {
-        -((size / divisor) as i64)
+        -(divisor.quotient(size) as i64)
     } else {
-        size.div_ceil(divisor) as i64
+        divisor.quotient_up(size) as i64
     }
 }
 

@@ -11,14 +11,16 @@ overflow_cast-result-else-sum-lt0 c =
     let above : pos 0 ≤ℤ c.args.sum = omega (arith, ints) in
     let small = pull-above c.args.mass c.args.train c.args.sum c.unsigned_abs.result c.requires.mass c.requires.train_least
     (record { least = c.requires.least; most = c.requires.most }) above (simp to_z-of_z at c.unsigned_abs.ensures.value) in
-    omega (arith, ints, small, c.div_ceil.ensures)
+    let q = rw c.requires.divisor at c.quotient_up.ensures in
+    omega (arith, ints, small, q)
 
 pub returns-then-sum-lt0-clause-pull : goal.returns-then-sum-lt0-clause-pull
 returns-then-sum-lt0-clause-pull c =
     let fits : SFits w64 c.args.sum = omega (arith, ints) in
     let below : c.args.sum <ℤ pos 0 = omega (arith, ints) in
-    pull-below c.args.mass c.args.train c.args.sum c.unsigned_abs.result c.requires.mass (record { least = c.requires.least; most = c.requires.most }) below
-    (simp to_z-of_z at c.unsigned_abs.ensures.value)
+    let q = rw c.requires.divisor at c.quotient.ensures.quotient in
+    rw q (pull-below c.args.mass c.args.train c.args.sum c.unsigned_abs.result c.requires.mass (record { least = c.requires.least; most = c.requires.most }) below
+    (simp to_z-of_z at c.unsigned_abs.ensures.value))
 
 pub returns-then-sum-lt0-clause-small : goal.returns-then-sum-lt0-clause-small
 returns-then-sum-lt0-clause-small c =
@@ -29,7 +31,8 @@ pub returns-else-sum-lt0-clause-pull : goal.returns-else-sum-lt0-clause-pull
 returns-else-sum-lt0-clause-pull c =
     let fits : SFits w64 c.args.sum = omega (arith, ints) in
     let above : pos 0 ≤ℤ c.args.sum = omega (arith, ints) in
-    rw c.div_ceil.ensures (pull-above_is c.args.mass c.args.train c.args.sum c.unsigned_abs.result c.requires.mass c.requires.train_least
+    let q = rw c.requires.divisor at c.quotient_up.ensures in
+    rw q (pull-above_is c.args.mass c.args.train c.args.sum c.unsigned_abs.result c.requires.mass c.requires.train_least
     (record { least = c.requires.least; most = c.requires.most }) above (simp to_z-of_z at c.unsigned_abs.ensures.value))
 
 pub returns-else-sum-lt0-clause-small : goal.returns-else-sum-lt0-clause-small
