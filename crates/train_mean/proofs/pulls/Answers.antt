@@ -5,7 +5,7 @@ use Rattle.std.proofs.lemmas.List.Elements.{All-nil, All-push}
 use Rattle.std.proofs.lemmas.List.FromFn.{map-range_with_len_more}
 use Rattle.run_rules.specs.Steps.{IsPull}
 use Rattle.train_mean.specs.Gradients.{gradients_under, pull_of}
-use Rattle.train_mean.proofs.WindowFacts.{AreSlopes-line, IsMean-under, IsSumUnder-moved, SFits-passes}
+use Rattle.train_mean.proofs.WindowFacts.{AreSlopes-line, IsMean-under, IsSumUnder, IsSumUnder-moved, SFits-passes}
 use Rattle.train_mean.proofs.pulls.Goals as goal
 
 pub loop-cell-init : goal.loop-cell-init
@@ -41,27 +41,22 @@ moved_sum-sum-requires-clause-most c =
     let most = mean.most in
     rw c.loop-cell.invariant.sum (omega (arith, ints, most, c.requires.train_most))
 
-pub pulled-under-requires-clause-least : goal.pulled-under-requires-clause-least
-pulled-under-requires-clause-least c =
+-- the sum that the code makes is that of the gradients under the train
+summed : (c : goal.After-divisor-in-loop-cell-1) → IsSumUnder c.args.line.now.slopes c.args.train c.loop-cell.cell c.moved_sum-sum.result
+summed c =
     let head = c.move_head-head.ensures.passes in
     let tail = c.move_tail-tail.ensures.passes in
-    let under = IsSumUnder-moved c.args.line.now.slopes c.loop-cell.head.slopes.now c.move_head-head.result.slopes.now c.move_tail-tail.result.slopes.now c.args.train c.loop-cell.cell _
+    IsSumUnder-moved c.args.line.now.slopes c.loop-cell.head.slopes.now c.move_head-head.result.slopes.now c.move_tail-tail.result.slopes.now c.args.train c.loop-cell.cell _
     c.move_head-head.result.tenths c.move_tail-tail.result.tenths c.moved_sum-sum.result (AreSlopes-line c.args.line.now c.length-length.ensures.kept) c.requires.train_most
     (SFits-passes _ _ _ _ head) (SFits-passes _ _ _ _ tail) c.moved_sum-sum.ensures.sum c.loop-cell.invariant.sum c.loop-cell.invariant.head_tells c.move_head-head.ensures.tells
     (λ k h. c.move_tail-tail.ensures.tells k h ∙ c.loop-cell.invariant.tail_tells k h)
-    (head.steady c.loop-cell.cell (omega arith) c.move_head-head.ensures.ahead) (tail.steady c.loop-cell.cell (omega arith) c.move_tail-tail.ensures.ahead) in
-    under.mean.least
+    (head.steady c.loop-cell.cell (omega arith) c.move_head-head.ensures.ahead) (tail.steady c.loop-cell.cell (omega arith) c.move_tail-tail.ensures.ahead)
+
+pub pulled-under-requires-clause-least : goal.pulled-under-requires-clause-least
+pulled-under-requires-clause-least c = let under = summed c in under.mean.least
 
 pub pulled-under-requires-clause-most : goal.pulled-under-requires-clause-most
-pulled-under-requires-clause-most c =
-    let head = c.move_head-head.ensures.passes in
-    let tail = c.move_tail-tail.ensures.passes in
-    let under = IsSumUnder-moved c.args.line.now.slopes c.loop-cell.head.slopes.now c.move_head-head.result.slopes.now c.move_tail-tail.result.slopes.now c.args.train c.loop-cell.cell _
-    c.move_head-head.result.tenths c.move_tail-tail.result.tenths c.moved_sum-sum.result (AreSlopes-line c.args.line.now c.length-length.ensures.kept) c.requires.train_most
-    (SFits-passes _ _ _ _ head) (SFits-passes _ _ _ _ tail) c.moved_sum-sum.ensures.sum c.loop-cell.invariant.sum c.loop-cell.invariant.head_tells c.move_head-head.ensures.tells
-    (λ k h. c.move_tail-tail.ensures.tells k h ∙ c.loop-cell.invariant.tail_tells k h)
-    (head.steady c.loop-cell.cell (omega arith) c.move_head-head.ensures.ahead) (tail.steady c.loop-cell.cell (omega arith) c.move_tail-tail.ensures.ahead) in
-    under.mean.most
+pulled-under-requires-clause-most c = let under = summed c in under.mean.most
 
 pub loop-cell-preserved : goal.loop-cell-preserved
 loop-cell-preserved c =
