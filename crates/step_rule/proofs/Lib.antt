@@ -1,3 +1,4 @@
 pub mod BrakeFacts
+pub mod HillFacts
 pub mod MonotoneFacts
 pub mod SpanFacts

@@ -10,26 +10,32 @@ ghost use Rattle.run_rules.specs.Runs.{IsMonotone};
 ghost use Rattle.run_rules.specs.Steps.{IsPull, fall_from};
 ghost use Rattle.step_rule.specs.Motion.{IsMotion, cells_of, kmh_of, most_of, step_rule_of};
 
+mod hills;
 mod search;
 #[cfg(test)]
 mod tests;
 
+use hills::gentle_pull;
 use std::marker::Model;
 use std::sync::ledger::Ledger;
-use table_laws::{Bands, Law};
-use unit_rules::Steps;
+use table_laws::{Bands, Law, Near};
+use unit_rules::{Divisor, Steps};
 
 /// The step rule of a train on a line.
 #[derive(Drop)]
 pub struct Rule {
     push: Bands,
     brake: Bands,
-    moved: u32,
+    moved: Divisor,
     pulls: Vec<i64>,
+    // a pull that is held, and one that is gentle
+    held: i64,
+    gentle: i64,
 }
 
 impl Model for Rule {
-    ghost use Rattle.step_rule.specs.Motion.{IsMotion, Motion};
+    ghost use Rattle.step_rule.specs.Hills.{KnowsHills};
+    ghost use Rattle.step_rule.specs.Motion.{Motion};
 
     ghost Value = { Motion };
 
@@ -40,12 +46,12 @@ impl Model for Rule {
       pulls = r.pulls.items;
     } };
 
-    ghost invariant = { λ r. IsMotion (record {
+    ghost invariant = { λ r. KnowsHills (record {
       push = r.push;
       brake = r.brake;
       moved = r.moved;
       pulls = r.pulls.items;
-    }) };
+    }) r.held r.gentle };
 }
 
 impl Rule {
@@ -67,13 +73,15 @@ impl Rule {
           pulls = pulls.items;
         } }
     {
-        let _push = push.top();
-        let _brake = brake.top();
+        let held = push.least();
+        let rate = brake.least().max(0).unsigned_abs();
         Rule {
             push,
             brake,
-            moved,
+            moved: Divisor::new(u64::from(moved)),
             pulls,
+            held,
+            gentle: gentle_pull(held, rate, moved),
         }
     }
 
@@ -104,8 +112,26 @@ impl Rule {
         ensures cost { steps.new ≡ steps.old + 1 }
         ensures kept { IsMotion self.now }
     {
+        self.up_near(cell, u, &mut Near::new(), steps)
+    }
+
+    /// As [`Rule::up`], found sooner where `u` lies at `near`, as it then does.
+    pub fn up_near<L: Ledger>(
+        &self,
+        cell: u32,
+        u: u32,
+        near: &mut Near,
+        steps: &mut Steps<L>,
+    ) -> i64
+        requires cell { cell < cells_of self.now }
+        requires in_range { u ≤ most_of self.now }
+        ensures value { result ≡ (step_rule_of self.now).up cell u }
+        ensures cost { steps.new ≡ steps.old + 1 }
+        ensures kept { IsMotion self.now }
+    {
         steps.tick();
-        pushed(u, self.push.at(u), self.pulls[cell as usize], self.moved)
+        let push = self.push.at_near(u, near);
+        pushed(u, push, self.pulls[cell as usize], &self.moved)
     }
 
     /// The least squared speed after cell `cell` from squared speed `u` before it: under full
@@ -118,26 +144,27 @@ impl Rule {
         ensures cost { steps.new ≡ steps.old + 1 }
         ensures kept { IsMotion self.now }
     {
-        self.up(cell, u, steps).min(self.fall_at(u))
+        let mut near = Near::new();
+        let up = self.up_near(cell, u, &mut near, steps);
+        up.min(self.fall_near(u, &mut near))
     }
 
     // Under full brakes.
-    fn fall_at(&self, u: u32) -> i64
+    fn fall_near(&self, u: u32, near: &mut Near) -> i64
         requires in_range { u ≤ most_of self.now }
         ensures value { result ≡ fall_from self.now.brake.rows u }
         ensures kept { IsMotion self.now }
     {
-        i64::from(u) - self.brake.at(u)
+        i64::from(u) - self.brake.at_near(u, near)
     }
 }
 
 // The squared speed `u` and what push less pull adds to it, by the moved mass.
-fn pushed(u: u32, push: i64, pull: i64, moved: u32) -> i64
+fn pushed(u: u32, push: i64, pull: i64, moved: &Divisor) -> i64
     requires push_most { push ≤ℤ pos (10 ^ 15) }
     requires push_least { neg_ℤ (pos (10 ^ 15)) ≤ℤ push }
     requires pull { IsPull pull }
-    requires moved_least { 1 ≤ moved }
-    ensures { result ≡ pos u +ℤ floor_div (push -ℤ pull) moved }
+    ensures { result ≡ pos u +ℤ floor_div (push -ℤ pull) moved.now }
 {
-    i64::from(u) + (push - pull).div_euclid(i64::from(moved))
+    i64::from(u) + moved.floor(push - pull)
 }

@@ -45,19 +45,53 @@ impl Rule {
             → steps.new ≤ steps.old + 2 }
         ensures kept { IsMotion self.now }
     {
+        self.back_near(cell, w, most, &mut 0, steps)
+    }
+
+    /// As [`Rule::back`], found sooner where full brakes end a cell at `w` from between `near` km/h
+    /// and the next whole speed, as they do afterwards. Where the hill is gentle it takes no step.
+    pub fn back_near<L: Ledger>(
+        &self,
+        cell: u32,
+        w: u32,
+        most: u32,
+        near: &mut u32,
+        steps: &mut Steps<L>,
+    ) -> u32
+        requires cell { cell < cells_of self.now }
+        requires in_range { most ≤ most_of self.now }
+        ensures most { result ≤ most }
+        ensures braked { (step_rule_of self.now).low cell result ≤ℤ pos w }
+        ensures greatest { (u : ℕ) → u ≤ most
+            → (step_rule_of self.now).low cell u ≤ℤ pos w → u ≤ result }
+        ensures cost { steps.new ≤ steps.old + 33 }
+        ensures quick { most ≤ 2 ^ 31 → fall_from self.now.brake.rows result ≤ℤ pos w
+            → steps.new ≤ steps.old + 2 }
+        ensures kept { IsMotion self.now }
+    {
         let _cells = self.cells();
+        if self.is_gentle(cell) {
+            return self.braked_near(w, near).min(most);
+        }
         if self.low(cell, most, steps) <= i64::from(w) {
             return most;
         }
         if most > GUESSED {
             return self.halved(cell, w, Span { at: 0, past: most }, steps);
         }
-        self.guessed(cell, w, most, steps)
+        self.guessed(cell, w, most, near, steps)
     }
 
     // The greatest squared speed below `most` from which the cell can end at `w` or below, looked for
     // first where full brakes end the cell there.
-    fn guessed<L: Ledger>(&self, cell: u32, w: u32, most: u32, steps: &mut Steps<L>) -> u32
+    fn guessed<L: Ledger>(
+        &self,
+        cell: u32,
+        w: u32,
+        most: u32,
+        near: &mut u32,
+        steps: &mut Steps<L>,
+    ) -> u32
         requires cell { cell < cells_of self.now }
         requires in_range { most ≤ most_of self.now }
         requires short { most ≤ 2 ^ 31 }
@@ -67,7 +101,7 @@ impl Rule {
         ensures cost { steps.new ≤ steps.old + 32 }
         ensures quick { fall_from self.now.brake.rows result ≤ℤ pos w → steps.new ≤ steps.old + 1 }
     {
-        let at = self.braked_from(w);
+        let at = self.braked_near(w, near);
         let span = self.begun(cell, w, Span { at, past: most }, steps);
         self.halved(cell, w, span, steps)
     }
@@ -151,11 +185,12 @@ impl Rule {
     }
 
     // The greatest squared speed from which full brakes end a cell at `w` or below.
-    fn braked_from(&self, w: u32) -> u32
+    fn braked_near(&self, w: u32, near: &mut u32) -> u32
         ensures braked { IsBrakedFrom self.now w result }
         ensures kept { IsMotion self.now }
     {
-        let kmh = self.kmh_braked_from(w);
+        let kmh = self.kmh_braked_from(w, *near);
+        *near = kmh;
         if kmh == self.top() {
             squared(kmh)
         } else {
@@ -178,7 +213,7 @@ impl Rule {
     }
 
     // The greatest whole number of km/h from which full brakes end a cell at `w` or below.
-    fn kmh_braked_from(&self, w: u32) -> u32
+    fn kmh_braked_from(&self, w: u32, near: u32) -> u32
         ensures in_range { result ≤ kmh_of self.now }
         ensures braked { fall_from self.now.brake.rows (squared result) ≤ℤ pos w }
         ensures greatest { result < kmh_of self.now
@@ -186,21 +221,38 @@ impl Rule {
         ensures kept { IsMotion self.now }
     {
         let top = self.top();
-        let mut kmh = (w / 10_000).isqrt().min(top);
+        let mut kmh = self.kmh_begun(w, near);
         while kmh < top && self.fall_at_kmh(kmh + 1) <= i64::from(w) {
             kmh += 1;
         }
         kmh
     }
+
+    // A whole number of km/h from which full brakes end a cell at `w` or below: `near`, unless it is
+    // too fast or a root tells a greater one.
+    fn kmh_begun(&self, w: u32, near: u32) -> u32
+        ensures in_range { result ≤ kmh_of self.now }
+        ensures braked { fall_from self.now.brake.rows (squared result) ≤ℤ pos w }
+        ensures kept { IsMotion self.now }
+    {
+        let top = self.top();
+        if near < top && w < squared(near + 1) && self.fall_at_kmh(near) <= i64::from(w) {
+            return near;
+        }
+        (w / 10_000).isqrt().min(top)
+    }
 }
 
-// How many of the `all` equal parts of a rise are at most `gap`.
+// How many of the `all` equal parts of a rise are at most `gap`. Where the brakes take the same at both
+// ends of a band, they are parts of 1.
 fn part_of(gap: u64, rise: u64, all: u32) -> u32
     requires below { gap < rise }
     requires few { all ≤ 10010000 }
     ensures { result ≡ gap * all / rise }
 {
-    if gap <= SMALL_GAP {
+    if rise == u64::from(all) {
+        gap as u32
+    } else if gap <= SMALL_GAP {
         (gap * u64::from(all) / rise) as u32
     } else {
         (u128::from(gap) * u128::from(all) / u128::from(rise)) as u32

@@ -1,9 +1,9 @@
 //! What the definitions mean in numbers, for a toy train of 259200 kg with brakes of 25920.
 
-ghost use Rattle.std.specs.Prelude.{◌≡◌, ◌^◌, ◌≤◌, pos, neg_ℤ, ◌≤ℤ◌, IfOk};
+ghost use Rattle.std.specs.Prelude.{◌≡◌, ◌^◌, ◌<◌, ◌≤◌, pos, neg_ℤ, ◌≤ℤ◌, IfOk};
 ghost use Rattle.run_rules.specs.Steps.{IsPull};
 ghost use Rattle.table_laws.proofs.ToyFacts.{toy_rows};
-ghost use Rattle.step_rule.specs.Motion.{kmh_of};
+ghost use Rattle.step_rule.specs.Motion.{cells_of, kmh_of};
 
 use super::*;
 use std::alloc::Global;
@@ -105,6 +105,30 @@ fn back<L: Ledger>(rule: &Rule, most: u32, blank: Blank) -> u32
     rule.back(0, 0, most, &mut steps)
 }
 
+// A train of that mass with a top of 2 km/h, whose brakes weaken from 1 km/h on. It is on a level
+// cell and then on a hill, where full effort takes 30000.
+fn hilly(rt: &impl Abort, alloc: Global) -> Result<Rule, Fail>
+    ensures top { IfOk result (λ rule. kmh_of rule ≡ 2) }
+    ensures cells { IfOk result (λ rule. cells_of rule ≡ 2) }
+{
+    let effort = Law::Drop { per: 259200 };
+    let push = Bands::new(vec![in alloc; FLAT, FLAT, FLAT]?, effort).expect(rt, "lawful");
+    let brake = Bands::new(vec![in alloc; 25920, 25920, 12960]?, Law::Climb).expect(rt, "lawful");
+    Ok(Rule::new(push, brake, 259200, vec![in alloc; 0, 12960000000]?))
+}
+
+// The greatest squared speed before a cell from which that train can stand after it.
+fn stopped<L: Ledger>(rule: &Rule, cell: u32, near: u32, blank: Blank) -> u32
+    requires name { blank.name ≡ L.name }
+    requires parts { blank.parts ≡ L.parts }
+    requires one { blank.parts ≡ 1 }
+    requires top { kmh_of rule.now ≡ 2 }
+    requires cell { cell < cells_of rule.now }
+{
+    let mut near = near;
+    rule.back_near(cell, 0, 40000, &mut near, &mut Steps::<L>::new(blank))
+}
+
 #[test]
 fn full_effort_on_hills(rt: HostRuntime) -> Result<(), Fail> {
     for i in 0..HILLS.len() {
@@ -131,5 +155,15 @@ fn effort_at_a_standstill_alone(rt: HostRuntime) -> Result<(), Fail> {
     let rule = toy(&rt, rt.alloc(), 2592000000, 0, 0)?;
     assert!(rt; bounds::<Brand>(&rule, 0, Blank::new(1)) == (10000, -25920));
     assert!(rt; bounds::<Brand>(&rule, 10000, Blank::new(1)) == (10000, -15920));
+    Ok(())
+}
+
+#[test]
+fn brakes_on_a_gentle_cell_and_on_a_steep_one(rt: HostRuntime) -> Result<(), Fail> {
+    let rule = hilly(&rt, rt.alloc())?;
+    assert!(rt; rule.holds_speed(0) && !rule.holds_speed(1));
+    assert!(rt; stopped::<Brand>(&rule, 0, 0, Blank::new(1)) == 21117);
+    assert!(rt; stopped::<Brand>(&rule, 0, 7, Blank::new(1)) == 21117);
+    assert!(rt; stopped::<Brand>(&rule, 1, 1, Blank::new(1)) == 30000);
     Ok(())
 }

@@ -9,9 +9,9 @@ returns-clause-value c =
     let value = c.row-value.ensures.value in
     let square = c.squared.ensures in
     let first = fall_from-squared c.self.inside.brake.rows c.args.kmh in
-    let tops = c.self.invariant.tops in
+    let tops = c.self.invariant.moves.tops in
     let slow = rw (← c.self.view_is) at c.requires in
     let on : c.args.kmh ≤ top_of c.self.inside.brake.rows = omega arith in
-    let most = c.self.invariant.brake_lawful.in_range.most c.args.kmh on in
-    let least = c.self.invariant.brake_lawful.in_range.least c.args.kmh on in
+    let most = c.self.invariant.moves.brake_lawful.in_range.most c.args.kmh on in
+    let least = c.self.invariant.moves.brake_lawful.in_range.least c.args.kmh on in
     rw (← c.self.view_is) (omega (arith, ints))

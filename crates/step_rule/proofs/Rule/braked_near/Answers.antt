@@ -1,6 +1,6 @@
 use Rattle.std.proofs.Common.{arith}
 use Rattle.step_rule.proofs.SpanFacts.{most_of-le}
-use Rattle.step_rule.proofs.Rule.braked_from.Goals as goal
+use Rattle.step_rule.proofs.Rule.braked_near.Goals as goal
 
 pub overflow_add-result : goal.overflow_add-result
 overflow_add-result c =

@@ -1,8 +1,18 @@
-use Rattle.std.proofs.Common.{◌<ℤ◌, pos, arith}
+use Rattle.std.proofs.Common.{◌<ℤ◌, pos, arith, refl}
 use Rattle.std.proofs.lemmas.Int.{ints}
 use Rattle.step_rule.specs.Motion.{cells_of, most_of, step_rule_of}
+use Rattle.step_rule.proofs.HillFacts.{braked-greatest, low-braked}
 use Rattle.step_rule.proofs.SpanFacts.{IsSpan-greatest, IsSpan-zero, most_of-le}
-use Rattle.step_rule.proofs.Rule.back.Goals as goal
+use Rattle.step_rule.proofs.Rule.back_near.Goals as goal
+
+pub returns-then-is_gentle-clause-braked : goal.returns-then-is_gentle-clause-braked
+returns-then-is_gentle-clause-braked g c =
+    rw c.min.ensures (low-braked c.args.self.now c.args.cell c.args.w c.braked_near.result c.args.most c.is_gentle.ensures.kept c.braked_near.ensures.braked)
+
+pub returns-then-is_gentle-clause-greatest : goal.returns-then-is_gentle-clause-greatest
+returns-then-is_gentle-clause-greatest g c = λ u h slow.
+    let at = braked-greatest c.args.self.now c.args.cell c.args.w c.braked_near.result u c.is_gentle.ensures.kept (c.if-is_gentle.ensures.gentle refl) c.braked_near.ensures.braked (omega arith) slow in
+    omega arith
 
 pub halved-requires-clause-span : goal.halved-requires-clause-span
 halved-requires-clause-span g c =
