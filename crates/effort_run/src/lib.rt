@@ -11,6 +11,7 @@ ghost use Rattle.effort_run.specs.Next.{IsNext};
 
 use std::sync::ledger::Ledger;
 use step_rule::Rule;
+use table_laws::Near;
 use unit_rules::{Reach, Steps};
 
 /// How far the train gets, and how far its speeds changed.
@@ -122,8 +123,9 @@ fn drive<L: Ledger>(rule: &Rule, c: &[u32], part: Part, e: &mut [u32], steps: &m
     if from == 0 {
         e[0] = c[0];
     }
+    let mut near = Near::new();
     for i in from.saturating_sub(1)..cells {
-        let Some(number) = number_after(rule, c, i, e, steps) else {
+        let Some(number) = number_after(rule, c, i, e, &mut near, steps) else {
             let last = to.max(known.max(i + 1) - 1);
             return End { known: i + 1, last };
         };
@@ -136,12 +138,14 @@ fn drive<L: Ledger>(rule: &Rule, c: &[u32], part: Part, e: &mut [u32], steps: &m
     End { known, last: cells }
 }
 
-// The number after cell `i`, if there is one.
+// The number after cell `i`, if there is one. A cap that is no faster than the train is taken without
+// a step where full effort loses no speed.
 fn number_after<L: Ledger>(
     rule: &Rule,
     c: &[u32],
     i: u32,
     e: &[u32],
+    near: &mut Near,
     steps: &mut Steps<L>,
 ) -> Option<u32>
     requires cell { i < cells_of rule.now }
@@ -150,11 +154,14 @@ fn number_after<L: Ledger>(
     requires in_range { slice_index e.now i ≤ most_of rule.now }
     ensures next { IfSome result (λ w. IsNextNumber (step_rule_of rule.now) c.now e.now i w) }
     ensures none { IfNone result (IsBlockedAfter (step_rule_of rule.now) c.now e.now i) }
-    ensures cost { steps.new ≡ steps.old + 1 }
+    ensures cost { steps.new ≤ steps.old + 1 }
 {
-    let now = e[i as usize];
-    let up = rule.up(i, now, steps);
-    next_speed(now, up, c[i as usize + 1])
+    let (now, cap) = (e[i as usize], c[i as usize + 1]);
+    if 0 < now && cap <= now && rule.holds_speed(i) {
+        return Some(cap);
+    }
+    let up = rule.up_near(i, now, near, steps);
+    next_speed(now, up, cap)
 }
 
 // The greatest squared speed that `cap` and `up` allow, unless it is a standstill after another.

@@ -1,8 +1,9 @@
-//! What the definitions mean in numbers, for a toy train of 259200 kg on a level line of ten cells:
-//! full effort adds 20000 to the squared speed in each cell, and the brakes take 25920.
+//! What the definitions mean in numbers, for a toy train of 259200 kg on a line of ten cells: full
+//! effort adds 20000 to the squared speed in each level cell, and the brakes take 25920.
 
 ghost use Rattle.std.specs.Prelude.{◌≡◌, ◌+◌, ◌^◌, ◌<◌, ◌≤◌, ℕ, pos, ◌≤ℤ◌, length, replicate, slice_index, IfOk};
 ghost use Rattle.std.specs.Bool.{OnTrue};
+ghost use Rattle.run_rules.specs.Steps.{IsPull};
 ghost use Rattle.step_rule.specs.Motion.{cells_of, kmh_of};
 
 use super::*;
@@ -25,6 +26,11 @@ const RUN: [u32; 11] = [
     0, 20000, 40000, 60000, 80000, 100000, 103680, 77760, 51840, 25920, 0,
 ];
 
+// The same with a hill in cell 6 on which full effort takes 30000.
+const HILLY_RUN: [u32; 11] = [
+    0, 20000, 40000, 60000, 80000, 100000, 103680, 73680, 51840, 25920, 0,
+];
+
 // The table with one value at each speed up to 60 km/h.
 fn level(rt: &impl Abort, alloc: Global, value: i64, law: Law) -> Result<Bands, Fail>
     requires least { pos 0 ≤ℤ value }
@@ -34,14 +40,21 @@ fn level(rt: &impl Abort, alloc: Global, value: i64, law: Law) -> Result<Bands, 
     Ok(Bands::new(vec![in alloc; value; 61]?, law).expect(rt, "lawful"))
 }
 
-fn toy(rt: &impl Abort, alloc: Global) -> Result<Rule, Fail>
+// The train on a line that is level but for a hill in cell 6.
+fn toy(rt: &impl Abort, alloc: Global, hill: i64) -> Result<Rule, Fail>
+    requires { IsPull hill }
     ensures top { IfOk result (λ rule. kmh_of rule ≡ 60) }
     ensures cells { IfOk result (λ rule. cells_of rule ≡ 10) }
     ensures brakes { IfOk result (λ rule. rule.brake.rows ≡ replicate 61 (pos 25920)) }
 {
     let push = level(rt, alloc, 5184000000, Law::Drop { per: 259200 })?;
     let brake = level(rt, alloc, 25920, Law::Climb)?;
-    Ok(Rule::new(push, brake, 259200, vec![in alloc; 0; 10]?))
+    Ok(Rule::new(
+        push,
+        brake,
+        259200,
+        vec![in alloc; 0, 0, 0, 0, 0, 0, hill, 0, 0, 0]?,
+    ))
 }
 
 // Whether the brakes get from each cap to the next, and no cap is past the top speed.
@@ -83,7 +96,7 @@ fn walk_over<L: Ledger>(
 
 #[test]
 fn runs_with_no_stop_on_the_way(rt: HostRuntime) -> Result<(), Fail> {
-    let rule = toy(&rt, rt.alloc())?;
+    let rule = toy(&rt, rt.alloc(), 0)?;
     let mut e = [0; 11];
     let free = walk_over::<Brand>(&rt, &rule, &FREE, &mut e, Blank::new(1));
     assert!(rt; free == Reach::Whole);
@@ -92,8 +105,18 @@ fn runs_with_no_stop_on_the_way(rt: HostRuntime) -> Result<(), Fail> {
 }
 
 #[test]
+fn runs_over_a_hill_that_slows_more_than_the_brakes(rt: HostRuntime) -> Result<(), Fail> {
+    let rule = toy(&rt, rt.alloc(), 12960000000)?;
+    let mut e = [0; 11];
+    let free = walk_over::<Brand>(&rt, &rule, &FREE, &mut e, Blank::new(1));
+    assert!(rt; free == Reach::Whole);
+    assert!(rt; e == HILLY_RUN);
+    Ok(())
+}
+
+#[test]
 fn stalls_between_two_stops(rt: HostRuntime) -> Result<(), Fail> {
-    let rule = toy(&rt, rt.alloc())?;
+    let rule = toy(&rt, rt.alloc(), 0)?;
     let mut e = [0; 11];
     let stops = walk_over::<Brand>(&rt, &rule, &STOPS, &mut e, Blank::new(1));
     assert!(rt; stops == Reach::Stalled { k: 6 });

@@ -11,7 +11,7 @@ invariant-loop-i g l = record {
   rest : (j : ℕ) → l.i < j → slice_index l.e j ≡ slice_index l.fn.e j;
   before : (j : ℕ) → j < l.from → slice_index l.e j ≡ slice_index l.fn.e j;
   differs : (j : ℕ) → l.to < j → j ≤ l.i → Some (slice_index l.e j) ≢ known_at l.fn.e l.known j;
-  cost : l.steps + (l.from - 1) ≡ l.fn.steps + l.i;
+  cost : l.steps + (l.from - 1) ≤ l.fn.steps + l.i;
   same_points : length l.e ≡ length l.c;
   above : l.from - 1 ≤ l.i;
 }
