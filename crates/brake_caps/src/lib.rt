@@ -46,13 +46,16 @@ pub fn walk_back<L: Ledger>(
     ensures cost { steps.new ≤ steps.old + 33 * (to + 2 - result) }
     ensures end_cost { to ≡ limits.now.length → steps.new ≤ steps.old + 33 * (to + 1 - result) }
 {
-    let mut level = Level::empty();
+    let mut hints = Hints {
+        level: Level::empty(),
+        near: 0,
+    };
     for point in (from as usize..to as usize + 1).rev() {
-        c[point] = number_at(rule, limits, point as u32, c, &mut level, steps);
+        c[point] = number_at(rule, limits, point as u32, c, &mut hints, steps);
     }
     let mut lowest = from;
     while lowest > 0 {
-        let number = number_at(rule, limits, lowest - 1, c, &mut level, steps);
+        let number = number_at(rule, limits, lowest - 1, c, &mut hints, steps);
         if number == c[lowest as usize - 1] {
             return lowest;
         }
@@ -62,26 +65,34 @@ pub fn walk_back<L: Ledger>(
     lowest
 }
 
+// What the point after tells of where to look: a stretch of one cap, and a whole km/h near which full
+// brakes end a cell at its number.
+#[derive(Drop)]
+struct Hints {
+    level: Level,
+    near: u32,
+}
+
 // The greatest number at a point from which the train can brake to what is next in `c`.
 fn number_at<L: Ledger>(
     rule: &Rule,
     limits: &Limits,
     point: u32,
     c: &[u32],
-    level: &mut Level,
+    hints: &mut Hints,
     steps: &mut Steps<L>,
 ) -> u32
     requires same_length { limits.now.length ≡ cells_of rule.now }
     requires same_top { limits.now.top ≡ kmh_of rule.now }
     requires points { length c.now ≡ limits.now.length + 1 }
     requires on_line { point ≤ limits.now.length }
-    requires level { IsLevel limits.now level.old }
-    ensures level { IsLevel limits.now level.new }
+    requires level { IsLevel limits.now hints.old.level }
+    ensures level { IsLevel limits.now hints.new.level }
     ensures number { IsGreatestNumber (step_rule_of rule.now) (caps limits.now) c.now point result }
     ensures cost { steps.new ≤ steps.old + 33 }
     ensures end_cost { point ≡ limits.now.length → steps.new ≡ steps.old }
 {
-    let cap = limits.cap_near(point, level);
+    let cap = limits.cap_near(point, &mut hints.level);
     if point == rule.cells() {
         return cap;
     }
@@ -90,5 +101,5 @@ fn number_at<L: Ledger>(
     if cap <= next {
         return cap;
     }
-    rule.back(point, next, cap, steps)
+    rule.back_near(point, next, cap, &mut hints.near, steps)
 }

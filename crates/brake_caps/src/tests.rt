@@ -2,6 +2,7 @@
 //! squared speed at each metre.
 
 ghost use Rattle.std.specs.Prelude.{◌≡◌, ◌^◌, pos, ◌≤ℤ◌, length, replicate, IfOk};
+ghost use Rattle.run_rules.specs.Steps.{IsPull};
 ghost use Rattle.step_rule.specs.Motion.{cells_of, kmh_of};
 
 use super::*;
@@ -39,6 +40,11 @@ const LISTS: [(u32, u32, [u32; 11]); 4] = [
     (TOP, TOP, [TOP; 11]),
 ];
 
+// The list between two stands with a hill in cell 5 on which full effort takes 30000.
+const HILLY: [u32; 11] = [
+    0, 237360, 211440, 185520, 159600, 133680, 103680, 77760, 51840, 25920, 0,
+];
+
 // The table with one value at each speed up to 60 km/h.
 fn level(rt: &impl Abort, alloc: Global, value: i64, law: Law) -> Result<Bands, Fail>
     requires least { pos 0 ≤ℤ value }
@@ -48,14 +54,20 @@ fn level(rt: &impl Abort, alloc: Global, value: i64, law: Law) -> Result<Bands, 
     Ok(Bands::new(vec![in alloc; value; 61]?, law).expect(rt, "lawful"))
 }
 
-// The rule of the toy train on a level line of ten cells.
-fn toy(rt: &impl Abort, alloc: Global) -> Result<Rule, Fail>
+// The rule of the toy train on a line of ten cells that is level but for a hill in cell 5.
+fn toy(rt: &impl Abort, alloc: Global, hill: i64) -> Result<Rule, Fail>
+    requires { IsPull hill }
     ensures top { IfOk result (λ rule. kmh_of rule ≡ 60) }
     ensures cells { IfOk result (λ rule. cells_of rule ≡ 10) }
 {
     let push = level(rt, alloc, 5184000000, Law::Drop { per: 259200 })?;
     let brake = level(rt, alloc, 25920, Law::Climb)?;
-    Ok(Rule::new(push, brake, 259200, vec![in alloc; 0; 10]?))
+    Ok(Rule::new(
+        push,
+        brake,
+        259200,
+        vec![in alloc; 0, 0, 0, 0, 0, hill, 0, 0, 0, 0]?,
+    ))
 }
 
 // The limits of that line for a train of ten metres, with bounds at its two ends alone.
@@ -96,9 +108,16 @@ fn makes(rt: &impl Abort, alloc: Global, rule: &Rule, row: (u32, u32, [u32; 11])
 
 #[test]
 fn braking_lists_of_the_toy_train(rt: HostRuntime) -> Result<(), Fail> {
-    let rule = toy(&rt, rt.alloc())?;
+    let rule = toy(&rt, rt.alloc(), 0)?;
     for i in 0..LISTS.len() {
         assert!(rt; makes(&rt, rt.alloc(), &rule, LISTS[i]), "list {i}");
     }
+    Ok(())
+}
+
+#[test]
+fn braking_list_over_a_hill_that_slows_more_than_the_brakes(rt: HostRuntime) -> Result<(), Fail> {
+    let rule = toy(&rt, rt.alloc(), 12960000000)?;
+    assert!(rt; makes(&rt, rt.alloc(), &rule, (0, 0, HILLY)));
     Ok(())
 }

@@ -22,6 +22,6 @@ pub returns-clause-number : goal.returns-clause-number
 returns-clause-number g c =
     let limits = c.args.limits.now in
     let long = length-caps limits in
-    let back = c.back.ensures in
+    let back = c.back_near.ensures in
     let cap = c.cap_near-cap.ensures.listed in
-    IsGreatestNumber-below (step_rule_of c.args.rule.now) (caps limits) c.args.c.now c.args.point _ _ c.back.result back.most back.braked back.greatest (omega arith) (omega arith) (omega arith)
+    IsGreatestNumber-below (step_rule_of c.args.rule.now) (caps limits) c.args.c.now c.args.point _ _ c.back_near.result back.most back.braked back.greatest (omega arith) (omega arith) (omega arith)

@@ -11,7 +11,7 @@ loop-point-init g c =
     let long = length-caps c.args.limits.now in
     record {
       least = omega arith;
-      level = c.empty-level.ensures c.args.limits.now;
+      level = c.empty.ensures c.args.limits.now;
       right = λ i h l. c.requires.past i (omega arith) (omega arith);
       kept = λ i h. refl;
       kept_past = λ i h. refl;

@@ -9,7 +9,7 @@ use Rattle.brake_caps.proofs.walk_back.Given as goal
 abbrev pub invariant-loop-point : goal.invariant-loop-point
 invariant-loop-point g l = record {
   least : l.from ≤ l.point;
-  level : IsLevel l.limits l.level;
+  level : IsLevel l.limits l.hints.level;
   right : IsGreatestFrom (step_rule_of l.rule) (caps l.limits) l.c l.point;
   kept : (i : ℕ) → i < l.point → slice_index l.c i ≡ slice_index l.fn.c i;
   kept_past : (i : ℕ) → l.to < i → slice_index l.c i ≡ slice_index l.fn.c i;
@@ -22,7 +22,7 @@ invariant-loop-point g l = record {
 -- below `from` those from `lowest` on changed
 abbrev pub invariant-loop-lowest : goal.invariant-loop-lowest
 invariant-loop-lowest g l = record {
-  level : IsLevel l.limits l.level;
+  level : IsLevel l.limits l.hints.level;
   right : IsGreatestFrom (step_rule_of l.rule) (caps l.limits) l.c l.lowest;
   kept : (i : ℕ) → i < l.lowest → slice_index l.c i ≡ slice_index l.fn.c i;
   kept_past : (i : ℕ) → l.to < i → slice_index l.c i ≡ slice_index l.fn.c i;
