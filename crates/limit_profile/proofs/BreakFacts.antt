@@ -2,14 +2,13 @@
 use Rattle.std.proofs.Common.{◌≡◌, ◌≤◌, ◌<◌, ◌+◌, ◌-◌, ◌⊎◌, inl, inr, ℕ, suc, zero, List, [], ◌∷◌, ◌++◌, true, false, length, get_or, arith, refl, sym, ap, ◌∙◌}
 use Rattle.std.proofs.lemmas.Bool.{cases_Bool, true≢false, cases_eq, eq-eqb, ne_eqb}
 use Rattle.std.proofs.lemmas.List.{append-nil}
-use Rattle.limit_profile.specs.Breaks.{begins, breaks_below, breaks_of, zoned_at}
-use Rattle.limit_profile.specs.Profile.{Profile}
+use Rattle.limit_profile.specs.Breaks.{begins, breaks_below}
 use Rattle.limit_profile.specs.declared.breaks.Break.{Break}
 use Rattle.limit_profile.specs.declared.pieces.Piece.{Piece}
 use Rattle.limit_profile.specs.Pieces.{IsPiece}
 
 -- no break stands at a point with the number of the point before
-begins-not : (f : ℕ → ℕ) (point : ℕ) → 0 < point → f (point - 1) ≡ f point → begins f point ≡ false
+pub begins-not : (f : ℕ → ℕ) (point : ℕ) → 0 < point → f (point - 1) ≡ f point → begins f point ≡ false
 begins-not f (suc point) l e = rw (ne_eqb (suc point) 0 (λ z. omega arith), eq-eqb (f (suc point - 1)) (f (suc point)) e) refl
 begins-not f zero l e = absurd (omega arith)
 
@@ -18,7 +17,7 @@ begins-there : (f : ℕ → ℕ) (point : ℕ) → (0 < point → f (point - 1) 
 begins-there f zero n = refl
 begins-there f (suc point) n = rw (ne_eqb (suc point) 0 (λ z. omega arith), ne_eqb (f (suc point - 1)) (f (suc point)) (n (omega arith))) refl
 
-begins-same : (f : ℕ → ℕ) (point : ℕ) → 0 < point → begins f point ≡ false → f (point - 1) ≡ f point
+pub begins-same : (f : ℕ → ℕ) (point : ℕ) → 0 < point → begins f point ≡ false → f (point - 1) ≡ f point
 begins-same f point l e = elim (cases_eq (f (point - 1)) (f point)) [
   | inl same ↦ same
   | inr n ↦ absurd (true≢false (sym (begins-there f point (λ k same. n same)) ∙ e))
@@ -125,16 +124,17 @@ Broken-at f to breaks k i d e broken l at next last =
     let long : length breaks ≡ suc (length broken.rest) = ap (λ (bs : List Break). length bs) same in
     rw same (HoldsFrom-at f _ broken.rest to k i d broken.holds (omega arith) (rw same at at) (λ m. rw same at (nexts (omega arith))) (λ m. last (omega arith)))
 
-pub breaks_of-broken : (p : Profile) → Broken (zoned_at p.length p.train p.top p.zones) (p.length + 1)
-breaks_of-broken p = let e : p.length + 1 ≡ suc p.length = omega arith in rw e (breaks_below-broken (zoned_at p.length p.train p.top p.zones) p.length)
+breaks_below-whole : (f : ℕ → ℕ) (end : ℕ) → 0 < end → Broken f end
+breaks_below-whole f zero l = absurd (omega arith)
+breaks_below-whole f (suc last) l = breaks_below-broken f last
 
--- the breaks of a profile are some, the first is at 0, and each holds up to the next
-pub breaks_of-some : (p : Profile) (breaks : List Break) → breaks ≡ breaks_of p → 0 < length breaks
-breaks_of-some p breaks e = let broken = breaks_of-broken p in rw (e ∙ broken.breaks) (omega arith)
+-- breaks below a point are some, the first is at 0, and each holds up to the next
+pub breaks_below-some : (f : ℕ → ℕ) (end : ℕ) (breaks : List Break) → 0 < end → breaks ≡ breaks_below f end → 0 < length breaks
+breaks_below-some f end breaks l e = let broken = breaks_below-whole f end l in rw (e ∙ broken.breaks) (omega arith)
 
-pub breaks_of-first : (p : Profile) (breaks : List Break) (d : Break) → breaks ≡ breaks_of p → (get_or breaks 0 d).at ≡ 0
-breaks_of-first p breaks d e = let broken = breaks_of-broken p in rw (e ∙ broken.breaks) refl
+pub breaks_below-first : (f : ℕ → ℕ) (end : ℕ) (breaks : List Break) (d : Break) → 0 < end → breaks ≡ breaks_below f end → (get_or breaks 0 d).at ≡ 0
+breaks_below-first f end breaks d l e = let broken = breaks_below-whole f end l in rw (e ∙ broken.breaks) refl
 
-pub breaks_of-at : (p : Profile) (breaks : List Break) (k i : ℕ) (d : Break) → breaks ≡ breaks_of p → k < length breaks → (get_or breaks k d).at ≤ i
-    → (k + 1 < length breaks → i < (get_or breaks (k + 1) d).at) → (length breaks ≤ k + 1 → i ≤ p.length) → zoned_at p.length p.train p.top p.zones i ≡ (get_or breaks k d).most
-breaks_of-at p breaks k i d e l at next last = Broken-at (zoned_at p.length p.train p.top p.zones) (p.length + 1) breaks k i d e (breaks_of-broken p) l at next (λ m. let on = last m in omega arith)
+pub breaks_below-at : (f : ℕ → ℕ) (end : ℕ) (breaks : List Break) (k i : ℕ) (d : Break) → 0 < end → breaks ≡ breaks_below f end → k < length breaks → (get_or breaks k d).at ≤ i
+    → (k + 1 < length breaks → i < (get_or breaks (k + 1) d).at) → (length breaks ≤ k + 1 → i < end) → f i ≡ (get_or breaks k d).most
+breaks_below-at f end breaks k i d some e l at next last = Broken-at f end breaks k i d e (breaks_below-whole f end some) l at next last

@@ -4,3 +4,4 @@ pub mod KeepFacts
 pub mod PieceFacts
 pub mod BreakFacts
 pub mod ZoneFacts
+pub mod CountFacts

@@ -10,6 +10,18 @@ pub ArePieces-more : (f : ℕ → ℕ) (from : ℕ) (pieces : List Piece) (to : 
 ArePieces-more f from [] to piece h last = (rw h last, refl)
 ArePieces-more f from (p ∷ ps) to piece h last = (h.0, ArePieces-more f p.until ps to piece h.1 last)
 
+-- a piece from a later point on
+pub IsPiece-later : (f : ℕ → ℕ) (from later : ℕ) (piece : Piece) → from ≤ later → later ≤ piece.until → IsPiece f from piece → IsPiece f later piece
+IsPiece-later f from later piece l m h = record { ordered = m; same = λ i a b. h.same i (omega arith) b }
+
+-- the lesser of two functions, as long as both have their pieces
+pub IsPiece-lesser : (f g h : ℕ → ℕ) (from : ℕ) (one other piece : Piece) → ((i : ℕ) → h i ≡ min (f i) (g i)) → IsPiece f from one → IsPiece g from other
+    → piece.until ≡ min one.until other.until → piece.most ≡ min one.most other.most → IsPiece h from piece
+IsPiece-lesser f g h from one other piece is a b until most = record {
+  ordered = omega (arith, a.ordered, b.ordered);
+  same = λ i l k. rw (is i, a.same i l (omega arith), b.same i l (omega arith), most) refl;
+}
+
 -- what is left of pieces from a point on that lies in the first of them
 past : ℕ → Piece → List Piece → List Piece
 past until p ps = cond (p.until == until) ps (p ∷ ps)

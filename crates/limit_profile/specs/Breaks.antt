@@ -1,5 +1,5 @@
 -- The caps of the zones as a list of breaks, the points from which they are others than before.
-use Rattle.std.specs.Prelude.{◌≡◌, ℕ, zero, suc, ◌+◌, ◌-◌, Bool, ◌||◌, ◌==◌, not, cond, List, [], ◌∷◌, ◌++◌}
+use Rattle.std.specs.Prelude.{◌≡◌, ℕ, zero, suc, ◌+◌, ◌-◌, ◌*◌, ◌≤◌, length, Bool, ◌||◌, ◌==◌, not, cond, List, [], ◌∷◌, ◌++◌}
 use Rattle.unit_rules.specs.declared.Zone.{Zone}
 use Rattle.run_rules.specs.Caps.{binding_at, least}
 use Rattle.run_rules.specs.Speeds.{squared}
@@ -23,7 +23,10 @@ breaks_below f (suc point) = breaks_below f point ++ cond (begins f point) (reco
 abbrev pub breaks_of : Profile → List Break
 breaks_of p = breaks_below (zoned_at p.length p.train p.top p.zones) (p.length + 1)
 
--- limits as they are kept: a profile and the breaks of its zones
-pub record IsKept (p : Profile) (breaks : List Break) : Type 0 where
+-- limits as they are kept: a profile and the breaks of its zones, with room for more of both
+pub record IsKept (p : Profile) (breaks : List Break) (zone_room break_room other_room : ℕ) : Type 0 where
   pub profile : IsProfile p
   pub listed : breaks ≡ breaks_of p
+  pub zones_fit : length p.zones + p.spare ≤ zone_room
+  pub breaks_fit : 2 * (length p.zones + p.spare) + 2 ≤ break_room
+  pub others_fit : 2 * (length p.zones + p.spare) + 2 ≤ other_room

@@ -1,18 +1,19 @@
 -- What contracts see of the limits of a train on a line.
-use Rattle.std.specs.Prelude.{ℕ, ◌≤◌, List, All}
+use Rattle.std.specs.Prelude.{◌≡◌, ℕ, ◌+◌, ◌≤◌, List, ◌∷◌, ◌++◌, All}
 use Rattle.unit_rules.specs.Zone.{LiesOn}
 use Rattle.unit_rules.specs.declared.Bound.{Bound}
 use Rattle.unit_rules.specs.declared.Zone.{Zone}
 use Rattle.run_rules.specs.Caps.{cap_at, caps_of}
 
 -- the line's length and the train's in metres, its top speed in km/h, the zones that bind until the tail has left them,
--- and the bounds that hold at one point
+-- the bounds that hold at one point, and how many zones can be added with no more memory
 pub record Profile : Type 0 where
   pub length : ℕ
   pub train : ℕ
   pub top : ℕ
   pub zones : List Zone
   pub bounds : List Bound
+  pub spare : ℕ
 
 -- the numbers are in range, and zones and bounds lie on the line
 pub record IsProfile (p : Profile) : Type 0 where
@@ -32,3 +33,19 @@ cap p point = cap_at p.length p.train p.top p.zones p.bounds point
 -- the caps at all points
 abbrev pub caps : Profile → List ℕ
 caps p = caps_of p.length p.train p.top p.zones p.bounds
+
+-- a profile with other zones, and another number of them spare
+abbrev pub rezoned : Profile → List Zone → ℕ → Profile
+rezoned p zones spare = record { length = p.length; train = p.train; top = p.top; zones = zones; bounds = p.bounds; spare = spare }
+
+-- a list of zones is another without one zone, which stood between its front and its back
+pub record IsWithout (zone : Zone) (before after : List Zone) : Type 0 where
+  pub front : List Zone
+  pub back : List Zone
+  pub stood : before ≡ front ++ zone ∷ back
+  pub stands : after ≡ front ++ back
+
+-- a profile after one of its zones was removed
+pub record IsFreed (zone : Zone) (before after : Profile) : Type 0 where
+  pub without : IsWithout zone before.zones after.zones
+  pub rest : after ≡ rezoned before after.zones (before.spare + 1)

@@ -2,22 +2,25 @@
 //! the stops allow at each point.
 #![tactic(auto)]
 
-ghost use Rattle.std.specs.Prelude.{◌≡◌, ℕ, ◌+◌, ◌-◌, ◌^◌, ◌≤◌, ◌<◌, ◌==◌, All, IfOk, slice_index};
+ghost use Rattle.std.specs.Prelude.{◌≡◌, ℕ, ◌+◌, ◌-◌, ◌*◌, ◌^◌, ◌≤◌, ◌<◌, ◌==◌, [], ◌∷◌, ◌++◌, max, All, Contains, IfOk, OnOk, OnErr, length, slice_index, slice_index_or, vec_capacity};
 ghost use Rattle.run_rules.specs.Caps.{binding_at, binds_at, bounds_at, least};
 ghost use Rattle.run_rules.specs.Speeds.{squared};
 ghost use Rattle.unit_rules.specs.Zone.{LiesOn};
 ghost use Rattle.limit_profile.specs.Breaks.{breaks_of, zoned_at};
 ghost use Rattle.limit_profile.specs.Levels.{IsLevel};
-ghost use Rattle.limit_profile.specs.Profile.{IsProfile, Profile, cap, caps};
+ghost use Rattle.limit_profile.specs.Profile.{IsFreed, IsProfile, Profile, cap, caps, rezoned};
 
 mod breaks;
+mod changes;
 mod pieces;
 
 pub use crate::breaks::Break;
-use crate::breaks::{break_up_to, list_breaks};
-use crate::pieces::zoned_pieces;
+use crate::breaks::{break_up_to, held_piece, list_breaks};
+use crate::changes::{Change, list_changed};
+use crate::pieces::{Course, zoned_pieces};
 use std::alloc::Global;
 use std::marker::Model;
+use std::mem::swap;
 use unit_rules::{Bound, Memory, Zone};
 
 /// A stretch of points, from one up to another, that have one cap. It is empty where it ends before
@@ -48,35 +51,40 @@ impl Level {
 /// The limits that bind a train on a line.
 #[derive(Drop)]
 pub struct Limits {
-    length: u32,
-    train: u32,
-    top: u32,
+    course: Course,
     zones: Vec<Zone>,
     bounds: Vec<Bound>,
+    // How many zones can be added with no more memory.
+    spare: usize,
     breaks: Vec<Break>,
+    // In which the breaks are listed anew.
+    other: Vec<Break>,
 }
 
 impl Model for Limits {
+    ghost use Rattle.std.specs.Prelude.{vec_capacity};
     ghost use Rattle.limit_profile.specs.Breaks.{IsKept};
     ghost use Rattle.limit_profile.specs.Profile.{Profile};
 
     ghost Value = { Profile };
 
     ghost view = { λ l. record {
-      length = l.length;
-      train = l.train;
-      top = l.top;
+      length = l.course.length;
+      train = l.course.train;
+      top = l.course.top;
       zones = l.zones.items;
       bounds = l.bounds.items;
+      spare = l.spare;
     } };
 
     ghost invariant = { λ l. IsKept (record {
-      length = l.length;
-      train = l.train;
-      top = l.top;
+      length = l.course.length;
+      train = l.course.train;
+      top = l.course.top;
       zones = l.zones.items;
       bounds = l.bounds.items;
-    }) l.breaks.items };
+      spare = l.spare;
+    }) l.breaks.items (vec_capacity l.zones) (vec_capacity l.breaks) (vec_capacity l.other) };
 }
 
 impl Limits {
@@ -96,6 +104,7 @@ impl Limits {
           top = top;
           zones = zones.now;
           bounds = bounds.now;
+          spare = 0;
         }) }
         ensures { IfOk result (λ l. l ≡ record {
           length = length;
@@ -103,10 +112,14 @@ impl Limits {
           top = top;
           zones = zones.now;
           bounds = bounds.now;
+          spare = 0;
         }) }
     {
-        let pieces = zoned_pieces(alloc, length, train, top, zones)?;
-        let breaks = list_breaks(alloc, &pieces)?;
+        let course = Course { length, train, top };
+        let pieces = zoned_pieces(alloc, course, zones)?;
+        let room = break_room(zones.len());
+        let breaks = list_breaks(alloc, &pieces, room.max(pieces.len()))?;
+        let other = list_breaks(alloc, &[], room)?;
         let (Ok(zones), Ok(bounds)) = (
             Vec::from_slice(alloc, zones),
             Vec::from_slice(alloc, bounds),
@@ -114,13 +127,79 @@ impl Limits {
             return Err(Memory);
         };
         Ok(Limits {
-            length,
-            train,
-            top,
+            course,
             zones,
             bounds,
+            spare: 0,
             breaks,
+            other,
         })
+    }
+
+    /// Makes room for so many zones to be added with no more memory, where there isn't room for as many
+    /// yet. A refusal changes nothing.
+    pub fn reserve(&mut self, count: usize) -> Result<(), Memory>
+        ensures made { OnOk result (self.new ≡ rezoned self.old self.old.zones
+            (max self.old.spare count)) }
+        ensures refused { OnErr result (self.new ≡ self.old) }
+    {
+        if count <= self.spare {
+            return Ok(());
+        }
+        let Some(zones) = self.zones.len().checked_add(count) else {
+            return Err(Memory);
+        };
+        if zones > MOST_ZONES {
+            return Err(Memory);
+        }
+        let room = break_room(zones);
+        let (Ok(()), Ok(()), Ok(())) = (
+            self.zones.reserve(count),
+            grow(&mut self.breaks, room),
+            grow(&mut self.other, room),
+        ) else {
+            return Err(Memory);
+        };
+        self.spare = count;
+        Ok(())
+    }
+
+    /// Adds a zone, for which there has to be room.
+    pub fn add(&mut self, zone: Zone)
+        requires spare { 1 ≤ self.old.spare }
+        requires lies { LiesOn self.old.length zone }
+        ensures { self.new ≡ rezoned self.old (self.old.zones ++ zone ∷ []) (self.old.spare - 1) }
+    {
+        self.zones.push_reserved(zone);
+        self.spare -= 1;
+        list_changed(
+            self.course,
+            Change::Added,
+            zone,
+            &self.zones,
+            &self.breaks,
+            &mut self.other,
+        );
+        swap(&mut self.breaks, &mut self.other);
+    }
+
+    /// Removes one of the zones. Where several are equal to it, the others stay.
+    pub fn remove(&mut self, zone: Zone)
+        requires { Contains self.old.zones zone }
+        ensures { IsFreed zone self.old self.new }
+    {
+        let index = place_of(&self.zones, zone);
+        self.zones.remove(index);
+        self.spare += 1;
+        list_changed(
+            self.course,
+            Change::Removed,
+            zone,
+            &self.zones,
+            &self.breaks,
+            &mut self.other,
+        );
+        swap(&mut self.breaks, &mut self.other);
     }
 
     /// The breaks of the caps of the zones: the points from which they are others than before, with 0
@@ -156,7 +235,7 @@ impl Limits {
         ensures level { IsLevel self.now level.new }
         ensures kept { IsProfile self.now }
     {
-        let _ = &self.length;
+        let _ = &self.course;
         if level.from <= point && point <= level.to {
             return level.cap;
         }
@@ -173,7 +252,7 @@ impl Limits {
         ensures kept { IsProfile self.now }
     {
         let zones = self.zoned_level(point);
-        let bounds = bounds_stretch(self.length, &self.bounds, point);
+        let bounds = bounds_stretch(self.course.length, &self.bounds, point);
         Level {
             from: zones.from.max(bounds.from),
             to: zones.to.min(bounds.to),
@@ -191,18 +270,11 @@ impl Limits {
         ensures kept { IsProfile self.now }
     {
         let index = break_up_to(&self.breaks, point);
-        let here = self.breaks[index];
-        if index + 1 < self.breaks.len() {
-            return Level {
-                from: here.at,
-                to: self.breaks[index + 1].at - 1,
-                cap: here.most,
-            };
-        }
+        let piece = held_piece(&self.breaks, index, point, self.course.length + 1);
         Level {
-            from: here.at,
-            to: self.length,
-            cap: here.most,
+            from: self.breaks[index].at,
+            to: piece.until - 1,
+            cap: piece.most,
         }
     }
 
@@ -214,6 +286,45 @@ impl Limits {
     {
         bound_cap(self.zoned_level(point).cap, &self.bounds, point)
     }
+}
+
+// More zones than fit in memory.
+const MOST_ZONES: usize = usize::MAX / 4;
+
+// For how many breaks there is room where there is room for so many zones.
+fn break_room(zones: usize) -> usize
+    requires { zones ≤ 2 ^ 62 }
+    ensures { result ≡ 2 * zones + 2 }
+{
+    2 * zones + 2
+}
+
+// Makes room for so many breaks.
+fn grow(breaks: &mut Vec<Break>, room: usize) -> Result<(), Memory>
+    ensures kept { breaks.new.items ≡ breaks.old.items }
+    ensures grown { vec_capacity breaks.old ≤ vec_capacity breaks.new }
+    ensures room { OnOk result (room ≤ vec_capacity breaks.new) }
+{
+    let Ok(()) = breaks.reserve(room.saturating_sub(breaks.len())) else {
+        return Err(Memory);
+    };
+    Ok(())
+}
+
+// Where the first of the zones that are equal to a zone stands.
+fn place_of(zones: &[Zone], zone: Zone) -> usize
+    requires { Contains zones.now zone }
+    ensures bound { result < length zones.now }
+    ensures zone { (d : Zone) → slice_index_or zones.now result d ≡ zone }
+{
+    let mut place = 0;
+    for other in zones {
+        if *other == zone {
+            return place;
+        }
+        place += 1;
+    }
+    place
 }
 
 // Points from one up to another.

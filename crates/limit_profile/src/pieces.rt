@@ -1,15 +1,24 @@
-//! The caps of zones as pieces of a line that have one cap each. They are made for either half of the
-//! zones, and the two lists met to one of the lesser caps, so that their work grows little faster than
-//! the zones.
+//! The caps of zones as pieces of a line that have one cap each. A list of them is made for either half
+//! of the zones, and the two lists met to one of the lesser caps, so that the work grows little faster
+//! than the zones.
 
-ghost use Rattle.std.specs.Prelude.{◌≡◌, ℕ, ◌+◌, ◌≤◌, ◌==◌, ◌∷◌, [], All, IfOk, cond, min};
+ghost use Rattle.std.specs.Prelude.{◌≡◌, ℕ, ◌+◌, ◌≤◌, ◌<◌, ◌==◌, ◌∷◌, [], All, IfOk, cond, min};
 ghost use Rattle.unit_rules.specs.Zone.{LiesOn};
-ghost use Rattle.limit_profile.specs.Breaks.{zoned_at};
-ghost use Rattle.limit_profile.specs.Pieces.{ArePieces};
+ghost use Rattle.run_rules.specs.Caps.{binds_at};
+ghost use Rattle.limit_profile.specs.Course.{IsCourse, zoned};
+ghost use Rattle.limit_profile.specs.Pieces.{ArePieces, IsPiece};
 
 use run_rules::squared;
 use std::alloc::Global;
 use unit_rules::{Memory, Zone};
+
+/// What the zones of a line bind: a train of `train` metres and `top` km/h on a line of `length` metres.
+#[derive(Clone, Copy)]
+pub(crate) struct Course {
+    pub length: u32,
+    pub train: u32,
+    pub top: u32,
+}
 
 /// A cap that holds below a point, from where the piece before it ended.
 #[derive(Clone, Copy)]
@@ -18,83 +27,152 @@ pub(crate) struct Piece {
     pub most: u32,
 }
 
-// The pieces of the least of the top speed and of all zones that bind, on a line of that length.
+// The pieces of the least of the top speed and of all zones that bind.
 pub(crate) fn zoned_pieces(
     alloc: Global,
-    line_length: u32,
-    train: u32,
-    top: u32,
+    course: Course,
     zones: &[Zone],
 ) -> Result<Vec<Piece>, Memory>
-    requires short { line_length ≤ 500000 }
-    requires train { train ≤ 5000 }
-    requires top { top ≤ 500 }
-    requires lie { All (LiesOn line_length) zones.now }
-    ensures { IfOk result (λ pieces. ArePieces (zoned_at line_length train top zones.now) 0
-        pieces.items (line_length + 1)) }
+    requires course { IsCourse course }
+    requires lie { All (LiesOn course.length) zones.now }
+    ensures { IfOk result (λ pieces. ArePieces (zoned course zones.now) 0 pieces.items
+        (course.length + 1)) }
 {
     if zones.is_empty() {
-        return free_pieces(alloc, line_length, train, top);
+        return list_pieces(alloc, &[free_piece(course)]);
     }
     if zones.len() == 1 {
-        return bound_pieces(alloc, line_length, train, top, zones[0]);
+        return bound_pieces(alloc, course, zones[0]);
     }
     let middle = zones.len() / 2;
-    let left = zoned_pieces(alloc, line_length, train, top, &zones[..middle])?;
-    let right = zoned_pieces(alloc, line_length, train, top, &zones[middle..])?;
+    let left = zoned_pieces(alloc, course, &zones[..middle])?;
+    let right = zoned_pieces(alloc, course, &zones[middle..])?;
     meet(alloc, &left, &right)
 }
 
 // The one piece of a line with no zones.
-fn free_pieces(alloc: Global, line_length: u32, train: u32, top: u32) -> Result<Vec<Piece>, Memory>
-    requires short { line_length ≤ 500000 }
-    requires top { top ≤ 500 }
-    ensures { IfOk result (λ pieces. ArePieces (zoned_at line_length train top []) 0
-        pieces.items (line_length + 1)) }
+fn free_piece(course: Course) -> Piece
+    requires { IsCourse course }
+    ensures until { result.until ≡ course.length + 1 }
+    ensures piece { IsPiece (zoned course []) 0 result }
 {
-    let _ = train;
-    let free = Piece {
-        until: line_length + 1,
-        most: squared(top),
-    };
-    let Ok(pieces) = Vec::from_slice(alloc, &[free]) else {
-        return Err(Memory);
-    };
-    Ok(pieces)
+    Piece {
+        until: course.length + 1,
+        most: squared(course.top),
+    }
 }
 
 // The pieces of a line with one zone: before it, in it, and past it.
-fn bound_pieces(
-    alloc: Global,
-    line_length: u32,
-    train: u32,
-    top: u32,
-    zone: Zone,
-) -> Result<Vec<Piece>, Memory>
-    requires short { line_length ≤ 500000 }
-    requires train { train ≤ 5000 }
-    requires top { top ≤ 500 }
-    requires lies { LiesOn line_length zone }
-    ensures { IfOk result (λ pieces. ArePieces (zoned_at line_length train top (zone ∷ [])) 0
-        pieces.items (line_length + 1)) }
+fn bound_pieces(alloc: Global, course: Course, zone: Zone) -> Result<Vec<Piece>, Memory>
+    requires course { IsCourse course }
+    requires lies { LiesOn course.length zone }
+    ensures { IfOk result (λ pieces. ArePieces (zoned course (zone ∷ [])) 0 pieces.items
+        (course.length + 1)) }
 {
-    let free = squared(top);
+    let free = squared(course.top);
     let before = Piece {
         until: zone.from,
         most: free,
     };
     let within = Piece {
-        until: line_length.min(zone.to + train) + 1,
+        until: released(course, zone),
         most: free.min(squared(zone.kmh)),
     };
-    let after = Piece {
-        until: line_length + 1,
-        most: free,
-    };
-    let Ok(pieces) = Vec::from_slice(alloc, &[before, within, after]) else {
+    list_pieces(alloc, &[before, within, free_piece(course)])
+}
+
+// The first point at which a zone binds no more.
+fn released(course: Course, zone: Zone) -> u32
+    requires course { IsCourse course }
+    requires lies { LiesOn course.length zone }
+    ensures { result ≡ min course.length (zone.to + course.train) + 1 }
+{
+    course.length.min(zone.to + course.train) + 1
+}
+
+// A list of pieces.
+fn list_pieces(alloc: Global, pieces: &[Piece]) -> Result<Vec<Piece>, Memory>
+    ensures { IfOk result (λ list. list.items ≡ pieces.now) }
+{
+    let Ok(list) = Vec::from_slice(alloc, pieces) else {
         return Err(Memory);
     };
-    Ok(pieces)
+    Ok(list)
+}
+
+// Whether a zone binds at a point.
+pub(crate) fn binds(course: Course, zone: Zone, point: u32) -> bool
+    requires course { IsCourse course }
+    requires lies { LiesOn course.length zone }
+    ensures { result ≡ binds_at course.length course.train point zone }
+{
+    zone.from <= point && point < released(course, zone)
+}
+
+// Up to where a zone binds as it does at a point, or doesn't.
+pub(crate) fn bound_until(course: Course, zone: Zone, point: u32) -> u32
+    requires course { IsCourse course }
+    requires lies { LiesOn course.length zone }
+    requires on_line { point ≤ course.length }
+    ensures past { point < result }
+    ensures on_line { result ≤ course.length + 1 }
+    ensures same { (i : ℕ) → point ≤ i → i < result → binds_at course.length course.train i zone
+        ≡ binds_at course.length course.train point zone }
+{
+    if point < zone.from {
+        return zone.from;
+    }
+    if point < released(course, zone) {
+        return released(course, zone);
+    }
+    course.length + 1
+}
+
+// The piece of the cap of one zone from a point on.
+pub(crate) fn zone_piece(course: Course, zone: Zone, point: u32) -> Piece
+    requires course { IsCourse course }
+    requires lies { LiesOn course.length zone }
+    requires on_line { point ≤ course.length }
+    ensures past { point < result.until }
+    ensures on_line { result.until ≤ course.length + 1 }
+    ensures piece { IsPiece (zoned course (zone ∷ [])) point result }
+{
+    let until = bound_until(course, zone, point);
+    let free = squared(course.top);
+    if binds(course, zone, point) {
+        return Piece {
+            until,
+            most: free.min(squared(zone.kmh)),
+        };
+    }
+    Piece { until, most: free }
+}
+
+// The piece of the least of the top speed and of all zones that bind, from a point on. It goes through
+// all zones.
+pub(crate) fn zones_piece(course: Course, zones: &[Zone], point: u32) -> Piece
+    requires course { IsCourse course }
+    requires lie { All (LiesOn course.length) zones.now }
+    requires on_line { point ≤ course.length }
+    ensures past { point < result.until }
+    ensures piece { IsPiece (zoned course zones.now) point result }
+{
+    let mut piece = free_piece(course);
+    for zone in zones {
+        piece = lesser(piece, zone_piece(course, *zone, point));
+    }
+    piece
+}
+
+// The piece of the lesser of two caps, from a piece of each.
+pub(crate) fn lesser(one: Piece, other: Piece) -> Piece
+    ensures until { result.until ≡ min one.until other.until }
+    ensures most { result.most ≡ min one.most other.most }
+{
+    Piece {
+        until: one.until.min(other.until),
+        most: one.most.min(other.most),
+    }
 }
 
 // The pieces of the lesser of two caps, from the pieces of both.
@@ -109,15 +187,12 @@ fn meet(alloc: Global, left: &[Piece], right: &[Piece]) -> Result<Vec<Piece>, Me
     while at_left < left.len() && at_right < right.len() {
         let here = left[at_left];
         let there = right[at_right];
-        let until = here.until.min(there.until);
-        let Ok(()) = met.push(Piece {
-            until,
-            most: here.most.min(there.most),
-        }) else {
+        let piece = lesser(here, there);
+        let Ok(()) = met.push(piece) else {
             return Err(Memory);
         };
-        at_left += passed(here, until);
-        at_right += passed(there, until);
+        at_left += passed(here, piece.until);
+        at_right += passed(there, piece.until);
     }
     Ok(met)
 }

@@ -5,9 +5,9 @@ use Rattle.limit_profile.proofs.pieces.+zoned_pieces.Goals as goal
 
 pub returns : goal.returns
 returns t c =
-    let line = c.args.line_length in
-    let train = c.args.train in
-    let top = c.args.top in
+    let line = c.args.course.length in
+    let train = c.args.course.train in
+    let top = c.args.course.top in
     let zones = c.args.zones.now in
     let middle = length zones / 2 in
     c.meet.ensures (zoned_at line train top (take middle zones)) (zoned_at line train top (take (length zones - middle) (drop middle zones))) (zoned_at line train top zones) (line + 1)

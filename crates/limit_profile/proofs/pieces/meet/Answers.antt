@@ -12,12 +12,12 @@ loop-at_left-preserved c =
     let none : Piece = record { until = 0; most = 0 } in
     let here : Piece = slice_index_or c.args.left.now c.loop-at_left.at_left none in
     let there : Piece = slice_index_or c.args.right.now c.loop-at_left.at_right none in
-    let left = one_at_most (here.until == c.min-until.result) in
-    let right = one_at_most (there.until == c.min-until.result) in
+    let left = one_at_most (here.until == c.lesser-piece.result.until) in
+    let right = one_at_most (there.until == c.lesser-piece.result.until) in
     record {
       left = omega (arith, c.passed-at_left.ensures);
       right = omega (arith, c.passed-at_right.ensures);
-      meets = λ f g h to is a b. rw (c.in-Ok.ensures.items, c.passed-at_left.ensures, c.passed-at_right.ensures, c.min-until.ensures, c.min.ensures)
+      meets = λ f g h to is a b. rw (c.in-Ok.ensures.items, c.passed-at_left.ensures, c.passed-at_right.ensures, c.lesser-piece.ensures.until, c.lesser-piece.ensures.most)
           (Meets-more f g h c.args.left.now c.args.right.now c.loop-at_left.met.items c.loop-at_left.at_left c.loop-at_left.at_right none here there to is l r refl refl (c.loop-at_left.invariant.meets f g h to is a b));
     }
 
