@@ -61,14 +61,26 @@ pub piece-begun : (f : ℕ → ℕ) (from most : ℕ) (piece : Piece) → IsPiec
 piece-begun f from most piece is l before n =
     (is.same (piece.until - 1) (omega arith) (omega arith), breaks_below-begun f from piece.most piece.until l (λ k e. n k (sym (before k) ∙ e)) is.same)
 
--- between a break and the next the function has the break's number, and so it has from the last break up to a point
+begins-other : (f : ℕ → ℕ) (point : ℕ) → 0 < point → begins f point ≡ true → f (point - 1) ≡ f point → ⊥
+begins-other f point l e same = true≢false (sym e ∙ begins-not f point l same)
+
+-- a break and the next: the function has the number of the first up to the second, which has another
+pub record IsFollowed (f : ℕ → ℕ) (b c : Break) : Type 0 where
+  pub rises : b.at < c.at
+  pub other : b.most ≡ c.most → ⊥
+  pub holds : (i : ℕ) → b.at ≤ i → i < c.at → f i ≡ b.most
+
+-- so break after break, and from the last one up to a point
 abbrev pub HoldsFrom : (ℕ → ℕ) → Break → List Break → ℕ → Type 0
 HoldsFrom f b [] to = (b.at < to) × ((i : ℕ) → b.at ≤ i → i < to → f i ≡ b.most)
-HoldsFrom f b (c ∷ bs) to = ((i : ℕ) → b.at ≤ i → i < c.at → f i ≡ b.most) × HoldsFrom f c bs to
+HoldsFrom f b (c ∷ bs) to = IsFollowed f b c × HoldsFrom f c bs to
 
-HoldsFrom-begun : (f : ℕ → ℕ) (b : Break) (bs : List Break) (to : ℕ) → HoldsFrom f b bs to → HoldsFrom f b (bs ++ record { at = to; most = f to } ∷ []) (suc to)
-HoldsFrom-begun f b [] to h = (h.1, (omega arith, λ i l m. let e : i ≡ to = omega arith in rw e refl))
-HoldsFrom-begun f b (c ∷ bs) to h = (h.0, HoldsFrom-begun f c bs to h.1)
+HoldsFrom-begun : (f : ℕ → ℕ) (b : Break) (bs : List Break) (to : ℕ) → (f (to - 1) ≡ f to → ⊥) → HoldsFrom f b bs to → HoldsFrom f b (bs ++ record { at = to; most = f to } ∷ []) (suc to)
+HoldsFrom-begun f b [] to n h = (
+  record { rises = h.0; other = λ e. n (h.1 (to - 1) (omega (arith, h.0)) (omega (arith, h.0)) ∙ e); holds = h.1 },
+  (omega arith, λ i l m. let e : i ≡ to = omega arith in rw e refl),
+)
+HoldsFrom-begun f b (c ∷ bs) to n h = (h.0, HoldsFrom-begun f c bs to n h.1)
 
 HoldsFrom-kept : (f : ℕ → ℕ) (b : Break) (bs : List Break) (to : ℕ) → f (to - 1) ≡ f to → HoldsFrom f b bs to → HoldsFrom f b bs (suc to)
 HoldsFrom-kept f b [] to e h = (
@@ -80,6 +92,18 @@ HoldsFrom-kept f b [] to e h = (
 )
 HoldsFrom-kept f b (c ∷ bs) to e h = (h.0, HoldsFrom-kept f c bs to e h.1)
 
+-- each break but the last is followed, and all lie below the point
+HoldsFrom-followed : (f : ℕ → ℕ) (b : Break) (bs : List Break) (to k : ℕ) (d : Break) → HoldsFrom f b bs to → k < length bs → IsFollowed f (get_or (b ∷ bs) k d) (get_or (b ∷ bs) (suc k) d)
+HoldsFrom-followed f b [] to k d h l = absurd (omega arith)
+HoldsFrom-followed f b (c ∷ bs) to zero d h l = h.0
+HoldsFrom-followed f b (c ∷ bs) to (suc k) d h l = HoldsFrom-followed f c bs to k d h.1 (omega arith)
+
+HoldsFrom-below : (f : ℕ → ℕ) (b : Break) (bs : List Break) (to k : ℕ) (d : Break) → HoldsFrom f b bs to → k ≤ length bs → (get_or (b ∷ bs) k d).at < to
+HoldsFrom-below f b [] to zero d h l = h.0
+HoldsFrom-below f b [] to (suc k) d h l = absurd (omega arith)
+HoldsFrom-below f b (c ∷ bs) to zero d h l = omega (arith, h.0.rises, HoldsFrom-below f c bs to 0 d h.1 (omega arith))
+HoldsFrom-below f b (c ∷ bs) to (suc k) d h l = HoldsFrom-below f c bs to k d h.1 (omega arith)
+
 -- the breaks below a point begin at 0, and the function has their numbers
 pub record Broken (f : ℕ → ℕ) (to : ℕ) : Type 0 where
   pub rest : List Break
@@ -90,7 +114,7 @@ broken_more : (f : ℕ → ℕ) (point : ℕ) → 0 < point → Broken f point �
 broken_more f point l before (inl e) = record {
   rest = before.rest ++ record { at = point; most = f point } ∷ [];
   breaks = one_more f point e ∙ ap (λ bs. bs ++ record { at = point; most = f point } ∷ []) before.breaks;
-  holds = HoldsFrom-begun f _ before.rest point before.holds;
+  holds = HoldsFrom-begun f _ before.rest point (begins-other f point l e) before.holds;
 }
 broken_more f point l before (inr e) = record {
   rest = before.rest;
@@ -111,7 +135,7 @@ pub HoldsFrom-at : (f : ℕ → ℕ) (b : Break) (bs : List Break) (to k i : ℕ
     → f i ≡ (get_or (b ∷ bs) k d).most
 HoldsFrom-at f b [] to zero i d h l at next last = h.1 i at (last refl)
 HoldsFrom-at f b [] to (suc k) i d h l at next last = absurd (omega arith)
-HoldsFrom-at f b (c ∷ bs) to zero i d h l at next last = h.0 i at (next (omega arith))
+HoldsFrom-at f b (c ∷ bs) to zero i d h l at next last = h.0.holds i at (next (omega arith))
 HoldsFrom-at f b (c ∷ bs) to (suc k) i d h l at next last = HoldsFrom-at f c bs to k i d h.1 (omega arith) at (λ m. next (omega arith)) (λ e. last (omega arith))
 
 -- so in a list of breaks
@@ -138,3 +162,18 @@ breaks_below-first f end breaks d l e = let broken = breaks_below-whole f end l 
 pub breaks_below-at : (f : ℕ → ℕ) (end : ℕ) (breaks : List Break) (k i : ℕ) (d : Break) → 0 < end → breaks ≡ breaks_below f end → k < length breaks → (get_or breaks k d).at ≤ i
     → (k + 1 < length breaks → i < (get_or breaks (k + 1) d).at) → (length breaks ≤ k + 1 → i < end) → f i ≡ (get_or breaks k d).most
 breaks_below-at f end breaks k i d some e l at next last = Broken-at f end breaks k i d e (breaks_below-whole f end some) l at next last
+
+pub breaks_below-followed : (f : ℕ → ℕ) (end : ℕ) (breaks : List Break) (k : ℕ) (d : Break) → 0 < end → breaks ≡ breaks_below f end → k + 1 < length breaks → IsFollowed f (get_or breaks k d) (get_or breaks (k + 1) d)
+breaks_below-followed f end breaks k d some e l =
+    let broken = breaks_below-whole f end some in
+    let same : breaks ≡ record { at = 0; most = f 0 } ∷ broken.rest = e ∙ broken.breaks in
+    let long : length breaks ≡ suc (length broken.rest) = ap (λ (bs : List Break). length bs) same in
+    let more : k + 1 ≡ suc k = omega arith in
+    rw (more, same) (HoldsFrom-followed f _ broken.rest end k d broken.holds (omega arith))
+
+pub breaks_below-below : (f : ℕ → ℕ) (end : ℕ) (breaks : List Break) (k : ℕ) (d : Break) → 0 < end → breaks ≡ breaks_below f end → k < length breaks → (get_or breaks k d).at < end
+breaks_below-below f end breaks k d some e l =
+    let broken = breaks_below-whole f end some in
+    let same : breaks ≡ record { at = 0; most = f 0 } ∷ broken.rest = e ∙ broken.breaks in
+    let long : length breaks ≡ suc (length broken.rest) = ap (λ (bs : List Break). length bs) same in
+    rw same (HoldsFrom-below f _ broken.rest end k d broken.holds (omega arith))

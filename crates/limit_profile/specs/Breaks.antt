@@ -1,5 +1,5 @@
 -- The caps of the zones as a list of breaks, the points from which they are others than before.
-use Rattle.std.specs.Prelude.{◌≡◌, ℕ, zero, suc, ◌+◌, ◌-◌, ◌*◌, ◌≤◌, length, Bool, ◌||◌, ◌==◌, not, cond, List, [], ◌∷◌, ◌++◌}
+use Rattle.std.specs.Prelude.{◌≡◌, ℕ, zero, suc, ◌+◌, ◌-◌, ◌*◌, ◌≤◌, ◌<◌, length, slice_index_or, Bool, ◌||◌, ◌==◌, not, cond, List, [], ◌∷◌, ◌++◌}
 use Rattle.unit_rules.specs.declared.Zone.{Zone}
 use Rattle.run_rules.specs.Caps.{binding_at, least}
 use Rattle.run_rules.specs.Speeds.{squared}
@@ -22,6 +22,10 @@ breaks_below f (suc point) = breaks_below f point ++ cond (begins f point) (reco
 -- the breaks of the zones of a profile
 abbrev pub breaks_of : Profile → List Break
 breaks_of p = breaks_below (zoned_at p.length p.train p.top p.zones) (p.length + 1)
+
+-- each break and the next are as told
+abbrev pub Neighbours : (Break → Break → Type 0) → List Break → Type 0
+Neighbours Told breaks = (k : ℕ) (d : Break) → k + 1 < length breaks → Told (slice_index_or breaks k d) (slice_index_or breaks (k + 1) d)
 
 -- limits as they are kept: a profile and the breaks of its zones, with room for more of both
 pub record IsKept (p : Profile) (breaks : List Break) (zone_room break_room other_room : ℕ) : Type 0 where

@@ -2,11 +2,11 @@
 //! the stops allow at each point.
 #![tactic(auto)]
 
-ghost use Rattle.std.specs.Prelude.{◌≡◌, ℕ, ◌+◌, ◌-◌, ◌*◌, ◌^◌, ◌≤◌, ◌<◌, ◌==◌, [], ◌∷◌, ◌++◌, max, All, Contains, IfOk, OnOk, OnErr, length, slice_index, slice_index_or, vec_capacity};
+ghost use Rattle.std.specs.Prelude.{◌≡◌, ◌≢◌, ℕ, ◌+◌, ◌-◌, ◌*◌, ◌^◌, ◌≤◌, ◌<◌, ◌==◌, [], ◌∷◌, ◌++◌, max, All, Contains, IfOk, OnOk, OnErr, length, slice_index, slice_index_or, vec_capacity};
 ghost use Rattle.run_rules.specs.Caps.{binding_at, binds_at, bounds_at, least};
 ghost use Rattle.run_rules.specs.Speeds.{squared};
 ghost use Rattle.unit_rules.specs.Zone.{LiesOn};
-ghost use Rattle.limit_profile.specs.Breaks.{breaks_of, zoned_at};
+ghost use Rattle.limit_profile.specs.Breaks.{Neighbours, breaks_of, zoned_at};
 ghost use Rattle.limit_profile.specs.Levels.{IsLevel};
 ghost use Rattle.limit_profile.specs.Profile.{IsFreed, IsProfile, Profile, cap, caps, rezoned};
 
@@ -206,6 +206,12 @@ impl Limits {
     /// the first. Bounds make none.
     pub fn breaks(&self) -> &[Break]
         ensures listed { result.now ≡ breaks_of self.now }
+        ensures some { 0 < length result.now }
+        ensures first { (d : Break) → (slice_index_or result.now 0 d).at ≡ 0 }
+        ensures rising { Neighbours (λ b c. b.at < c.at) result.now }
+        ensures other { Neighbours (λ b c. b.most ≢ c.most) result.now }
+        ensures on_line { All (λ b. b.at ≤ self.now.length) result.now }
+        ensures few { length result.now ≤ 2 * length self.now.zones + 1 }
         ensures kept { IsProfile self.now }
     {
         &self.breaks
@@ -235,7 +241,7 @@ impl Limits {
         ensures level { IsLevel self.now level.new }
         ensures kept { IsProfile self.now }
     {
-        let _ = &self.course;
+        prove!(point <= self.course.length);
         if level.from <= point && point <= level.to {
             return level.cap;
         }
@@ -396,6 +402,18 @@ mod tests {
     use super::*;
     use std::test::Fail;
 
+    const SLOW: Zone = Zone {
+        from: 3,
+        to: 4,
+        kmh: 2,
+    };
+
+    const SLOWER: Zone = Zone {
+        from: 3,
+        to: 4,
+        kmh: 1,
+    };
+
     // The caps and the breaks of a line of 300 m for a train of 50 m and 60 km/h, with a limit of
     // 36 km/h from 100 to 200, a stop at 20, and a bound at the end.
     #[test]
@@ -441,30 +459,32 @@ mod tests {
         Ok(())
     }
 
-    // A limit of 2 km/h has the breaks of its reach, and one of 1 km/h in the same place hides it.
+    // A limit of 1 km/h hides one of 2 km/h in the same place until it is removed.
     #[test]
-    fn breaks(rt: HostRuntime) -> Result<(), Fail> {
-        let zones = [
-            Zone {
-                from: 3,
-                to: 4,
-                kmh: 2,
-            },
-            Zone {
-                from: 3,
-                to: 4,
-                kmh: 1,
-            },
-        ];
-        let both = Limits::new(rt.alloc(), 10, 10, 60, &zones, &[]);
-        let one = Limits::new(rt.alloc(), 10, 10, 60, &zones[..1], &[]);
-        assert!(rt; both.is_ok());
-        assert!(rt; one.is_ok());
-        let (Ok(both), Ok(one)) = (both, one) else {
+    fn uncovered(rt: HostRuntime) -> Result<(), Fail> {
+        let Ok(mut limits) = Limits::new(rt.alloc(), 10, 10, 60, &[], &[]) else {
             return Ok(());
         };
-        assert!(rt; both.breaks() == [at(0, 36_000_000), at(3, 10_000)].as_slice());
-        assert!(rt; one.breaks() == [at(0, 36_000_000), at(3, 40_000)].as_slice());
+        let Ok(()) = limits.reserve(2) else {
+            return Ok(());
+        };
+        limits.add(SLOW);
+        limits.add(SLOWER);
+        assert!(rt; limits.breaks() == [at(0, 36_000_000), at(3, 10_000)].as_slice());
+        limits.remove(SLOWER);
+        assert!(rt; limits.breaks() == [at(0, 36_000_000), at(3, 40_000)].as_slice());
+        Ok(())
+    }
+
+    // Where two limits are equal, one is left after the other was removed.
+    #[test]
+    fn equal(rt: HostRuntime) -> Result<(), Fail> {
+        let zones = [SLOW, SLOW];
+        let Ok(mut limits) = Limits::new(rt.alloc(), 10, 10, 60, &zones, &[]) else {
+            return Ok(());
+        };
+        limits.remove(SLOW);
+        assert!(rt; limits.breaks() == [at(0, 36_000_000), at(3, 40_000)].as_slice());
         Ok(())
     }
 
