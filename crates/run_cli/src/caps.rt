@@ -14,7 +14,7 @@ use crate::Status;
 use crate::files::load_line;
 use crate::form::Form;
 use crate::report::ListReport;
-use limit_profile::Limits;
+use limit_profile::{Level, Limits};
 use line_tables::Line;
 use run_io::Shelf;
 use run_words::CapsForm;
@@ -72,8 +72,9 @@ fn list_caps(alloc: Global, limits: &Limits, length: u32) -> Result<Vec<u32>, Me
     ensures { IfOk result (λ list. list.items ≡ caps limits.now) }
 {
     let mut caps = Vec::new(alloc);
+    let mut level = Level::empty();
     for point in 0..length + 1 {
-        let Ok(()) = caps.push(limits.cap(point)) else {
+        let Ok(()) = caps.push(limits.cap_near(point, &mut level)) else {
             return Err(Memory);
         };
     }
