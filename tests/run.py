@@ -7,7 +7,8 @@ Each file of tests/cases/ is TOML and has tables `[[case]]` with
     words   the words of the command line: a text, or `{ hex = ".." }`
     files   the files that lie where the program runs, by name: a text; `{ hex = ".." }`, its bytes;
             `{ size = N }`, N bytes of 0; `{ text = "..", size = N }`, a text and then line ends, to N
-            bytes; or `{ path = ".." }`, the bytes of a file of the repository
+            bytes; `{ text = "..", again = "..", times = N, end = ".." }`, a text, one that is there
+            N times, and an end; or `{ path = ".." }`, the bytes of a file of the repository
     input   the text of standard input (none: no bytes)
     stdout  a place to which the output goes in place of a pipe, as "/dev/full" or "closed"
     status  the exit status that is wanted (none: 0)
@@ -61,6 +62,8 @@ def content_of(given):
         return bytes.fromhex(given["hex"])
     if "path" in given:
         return (TOP / given["path"]).read_bytes()
+    if "again" in given:
+        return (given["text"] + given["again"] * given["times"] + given["end"]).encode()
     if "text" in given:
         return given["text"].encode().ljust(given["size"], b"\n")
     return bytes(given["size"])

@@ -12,9 +12,6 @@ mod kinds;
 mod names;
 mod points;
 mod table;
-#[cfg(test)]
-mod tests;
-
 use crate::draft::Draft;
 pub use names::Name;
 use record_rules::{RecordFault, read_records};

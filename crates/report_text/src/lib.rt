@@ -169,6 +169,3 @@ fn put_reach(page: &mut Page, reach: Reach)
         }
     }
 }
-
-#[cfg(test)]
-mod tests;

@@ -68,6 +68,3 @@ pub fn read_stock(alloc: Global, bytes: &[u8]) -> Result<Stock, StockFault>
     let keys = read_keys(alloc, &document)?;
     Stock::new(alloc, keys)
 }
-
-#[cfg(test)]
-mod tests;
