@@ -57,7 +57,9 @@ lines_below-from line i (suc n) =
 
 -- one line more before them
 pub lines_from-before : (line : ℕ → List ℕ) (i n m : ℕ) → m ≡ n + 1 → lines_from line i m ≡ line i ++ lines_from line (i + 1) n
-lines_from-before line i n m e = rw (e, add-one) refl
+lines_from-before line i n m e =
+    let next : m ≡ suc n = omega (arith, e) in
+    rw next refl
 
 -- a block of lines behind those that have gone
 pub Carries-lines : (line : ℕ → List ℕ) (i n m : ℕ) (w w' : Told (List ℕ)) (block : List ℕ) → i + n ≡ m → Carries w [] w' [] (lines_below line i) → block ≡ lines_from line i n
