@@ -7,8 +7,9 @@ Each file of tests/cases/ is TOML and has tables `[[case]]` with
     words   the words of the command line: a text, or `{ hex = ".." }`
     files   the files that lie where the program runs, by name: a text; `{ hex = ".." }`, its bytes;
             `{ size = N }`, N bytes of 0; `{ text = "..", size = N }`, a text and then line ends, to N
-            bytes; `{ text = "..", again = "..", times = N, end = ".." }`, a text, one that is there
-            N times, and an end; or `{ path = ".." }`, the bytes of a file of the repository
+            bytes; `{ parts = [..] }`, texts and `{ text = "..", times = N }` one after the other;
+            `{ fifo = ".." }`, a FIFO into which the text is written once it is read; or
+            `{ path = ".." }`, the bytes of a file of the repository
     input   the text of standard input (none: no bytes)
     stdout  a place to which the output goes in place of a pipe, as "/dev/full" or "closed"
     status  the exit status that is wanted (none: 0)
@@ -37,10 +38,12 @@ The program is started in a new folder that holds those files alone.
 """
 
 import itertools
+import os
 import pathlib
 import subprocess
 import sys
 import tempfile
+import threading
 import tomllib
 
 sys.dont_write_bytecode = True  # the sources have no folder of compiled ones beside them
@@ -58,12 +61,14 @@ def content_of(given):
     """The bytes of a file of a case."""
     if isinstance(given, str):
         return given.encode()
+    if "parts" in given:
+        return b"".join(map(content_of, given["parts"]))
+    if "times" in given:
+        return given["text"].encode() * given["times"]
     if "hex" in given:
         return bytes.fromhex(given["hex"])
     if "path" in given:
         return (TOP / given["path"]).read_bytes()
-    if "again" in given:
-        return (given["text"] + given["again"] * given["times"] + given["end"]).encode()
     if "text" in given:
         return given["text"].encode().ljust(given["size"], b"\n")
     return bytes(given["size"])
@@ -159,10 +164,19 @@ def cases_of(path):
             yield checked({**table, "name": f"{table['name']}: {row}", "words": row})
 
 
+def lay(path, given):
+    """Lays a file of a case where the program finds it."""
+    if "fifo" not in given:
+        path.write_bytes(content_of(given))
+        return
+    os.mkfifo(path)
+    threading.Thread(target=path.write_text, args=(given["fifo"],), daemon=True).start()
+
+
 def run(case, folder):
     """The status and the output of a case."""
     for name, given in case.get("files", {}).items():
-        (folder / name).write_bytes(content_of(given))
+        lay(folder / name, given)
     words = [str(TOP / "rtime"), *(content_of(word) for word in case["words"])]
     stdin = case.get("input", "").encode()
     stdout = case.get("stdout")

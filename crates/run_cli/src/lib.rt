@@ -109,5 +109,3 @@ fn serve_request<S: Shelf, I: Source, K: Sink, L: Ledger>(
     }
 }
 
-#[cfg(test)]
-mod tests;

@@ -1,5 +1,4 @@
-//! What no clause says: that a request is read where memory is found, and what clap makes of
-//! options, which no form has yet.
+//! What no clause and no case says: what clap makes of options, which no form has yet.
 
 ghost use Rattle.std.specs.Prelude.{◌≡◌, IfOk};
 ghost use Rattle.clap.specs.Words.{app_of};
@@ -17,58 +16,6 @@ fn words_of(alloc: Global, text: &str) -> Result<Vec<String>, AllocError> {
         words.push(String::from_str(alloc, word)?)?;
     }
     Ok(words)
-}
-
-// What a request says, as words between bars.
-fn told(alloc: Global, request: Option<Request>) -> Result<String, AllocError> {
-    match request {
-        None => String::from_str(alloc, "none"),
-        Some(Request::Caps(CapsForm { line, train, top })) => {
-            format!(in alloc; "caps|{line}|{train}|{top}")
-        }
-        Some(Request::Stock(StockForm { stock })) => format!(in alloc; "stock|{stock}"),
-        Some(Request::Rise(RiseForm { line, stock, kmh })) => {
-            format!(in alloc; "rise|{line}|{stock}|{kmh}")
-        }
-        Some(Request::Brakes(BrakesForm { line, stock })) => {
-            format!(in alloc; "brakes|{line}|{stock}")
-        }
-        Some(Request::Envelope(EnvelopeForm { line, stock })) => {
-            format!(in alloc; "envelope|{line}|{stock}")
-        }
-    }
-}
-
-// Words and what they ask for.
-const FORMS: [(&str, &str); 17] = [
-    ("caps|l|1|1", "caps|l|1|1"),
-    ("caps|l|5000|500", "caps|l|5000|500"),
-    ("stock|s", "stock|s"),
-    ("rise|l|s|0", "rise|l|s|0"),
-    ("rise|--|l|s|500", "rise|l|s|500"),
-    ("brakes|l|s", "brakes|l|s"),
-    ("brakes|--|-l|s", "brakes|-l|s"),
-    ("envelope|l|s", "envelope|l|s"),
-    ("caps|l|050|60", "none"),
-    ("caps|l| 50|60", "none"),
-    ("caps|l|50", "none"),
-    ("caps |l|50|60", "none"),
-    ("envelope|l|s|n", "none"),
-    ("envelop|l|s", "none"),
-    ("brakes|--help", "none"),
-    ("", "none"),
-    ("plan|l|s|p|--print|cert", "none"),
-];
-
-#[test]
-fn what_words_ask_for(rt: HostRuntime) -> Result<(), Fail> {
-    let alloc = rt.alloc();
-    for (text, wanted) in FORMS {
-        let words = words_of(alloc, text)?;
-        let request = told(alloc, read_request(alloc, &words)?)?;
-        assert!(rt; request.as_str() == wanted, "{text}: {request}");
-    }
-    Ok(())
 }
 
 // The command `plan LINE STOCK PLAN --print KIND [--edits FILE]`.

@@ -1,13 +1,11 @@
-//! What no clause says: that a run succeeds where memory is found, and what it writes where a call
-//! of the outside fails.
+//! What no clause of `run` says: that a run succeeds where memory is found, and what it writes where a
+//! call of the outside fails.
 
 ghost use Rattle.std.specs.Prelude.{◌≡◌, ◌<◌};
 
 use super::*;
 use run_io::{MemShelf, MemSink, MemSource};
-use std::alloc::AllocError;
-use std::marker::Brand;
-use std::sync::ledger::Blank;
+use std::alloc::{AllocError, Global};
 use std::test::Fail;
 
 const LIM: &[u8] = b"line,Lim,4\nlimit,1,2,36\n";

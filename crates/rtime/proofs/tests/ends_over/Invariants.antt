@@ -1,4 +1,4 @@
-use Rattle.run_cli.proofs.tests.ends_over.Given as goal
+use Rattle.rtime.proofs.tests.ends_over.Given as goal
 
 abbrev pub ghosts-run_counted : goal.ghosts-run_counted
 ghosts-run_counted a = record { name = a.blank.name; parts = a.blank.parts }
