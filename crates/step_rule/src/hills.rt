@@ -1,6 +1,6 @@
 //! Hills that a train's push and its brakes make up for, told by the pull of a cell alone.
 
-ghost use Rattle.std.specs.Prelude.{◌*◌, ◌^◌, ◌<◌, ◌≤◌, pos, neg_ℤ, ◌+ℤ◌, ◌≤ℤ◌, IsTrue};
+ghost use Rattle.std.specs.Prelude.{◌≡◌, ◌*◌, ◌^◌, ◌<◌, ◌≤◌, pos, neg_ℤ, ◌+ℤ◌, ◌≤ℤ◌, IsTrue};
 ghost use Rattle.run_rules.specs.Grids.{row};
 ghost use Rattle.step_rule.specs.Hills.{IsGentle, IsHeld};
 ghost use Rattle.step_rule.specs.Motion.{IsMotion, cells_of};
@@ -28,20 +28,13 @@ impl Rule {
     }
 }
 
-/// The pull that a push of at least `push` and brakes that take at least `rate` from the squared
-/// speed of the moved mass make up for together.
-pub(crate) fn gentle_pull(push: i64, rate: u64, moved: u32) -> i64
+/// The pull that a push of `push` and brakes that take `rate` from the squared speed of the moved
+/// mass make up for together.
+pub(crate) fn gentle_pull(push: i64, rate: u32, moved: u32) -> i64
     requires push_most { push ≤ℤ pos (10 ^ 15) }
     requires push_least { neg_ℤ (pos (10 ^ 15)) ≤ℤ push }
-    ensures gentle { result ≤ℤ (push +ℤ pos (moved * rate)) }
+    requires rate_most { rate ≤ 1000000 }
+    ensures { result ≡ push +ℤ pos (moved * rate) }
 {
-    push + held_by(rate, moved) as i64
-}
-
-// The pull that brakes of that rate hold, or less where it is past what an `i64` holds.
-fn held_by(rate: u64, moved: u32) -> u64
-    ensures held { result ≤ moved * rate }
-    ensures small { result < 10 ^ 16 }
-{
-    u64::from(moved) * rate.min(1_000_000)
+    push + (u64::from(moved) * u64::from(rate)) as i64
 }

@@ -21,6 +21,9 @@ use std::sync::ledger::Ledger;
 use table_laws::{Bands, Law, Near};
 use unit_rules::{Divisor, Steps};
 
+// What brakes take past this tells no more hills that are gentle: times any mass it fits an `i64`.
+const GREATEST_RATE: i64 = 1_000_000;
+
 /// The step rule of a train on a line.
 #[derive(Drop)]
 pub struct Rule {
@@ -74,7 +77,7 @@ impl Rule {
         } }
     {
         let held = push.least();
-        let rate = brake.least().max(0).unsigned_abs();
+        let rate = brake.least().max(0).min(GREATEST_RATE) as u32;
         Rule {
             push,
             brake,
