@@ -1,7 +1,8 @@
 //! The search for the squared speed before a cell from which a train can be slow enough after it.
 //!
 //! It begins where full brakes alone end the cell at the speed that is wanted, which the table of
-//! brakes tells, and goes on by halves where a hill slows the train more than its brakes.
+//! brakes tells. On a gentle hill it ends there too, with no step; it goes on by halves where a hill
+//! slows the train more than its brakes.
 
 ghost use Rattle.std.specs.Prelude.{◌≡◌, ℕ, ◌+◌, ◌*◌, ◌/◌, ◌^◌, ◌<◌, ◌≤◌, ◌⊎◌, pos, ◌≤ℤ◌, ◌<ℤ◌};
 ghost use Rattle.run_rules.specs.Speeds.{squared};
@@ -48,8 +49,8 @@ impl Rule {
         self.back_near(cell, w, most, &mut 0, steps)
     }
 
-    /// As [`Rule::back`], found sooner where full brakes end a cell at `w` from between `near` km/h
-    /// and the next whole speed, as they do afterwards. Where the hill is gentle it takes no step.
+    /// As [`Rule::back`], found sooner where `near` is the whole km/h from which full brakes end a
+    /// cell at `w`, or just below. It is a guess that the search for one cell leaves to the next.
     pub fn back_near<L: Ledger>(
         &self,
         cell: u32,
