@@ -14,6 +14,14 @@ ArePieces-more f from (p ∷ ps) to piece h last = (h.0, ArePieces-more f p.unti
 pub IsPiece-later : (f : ℕ → ℕ) (from later : ℕ) (piece : Piece) → from ≤ later → later ≤ piece.until → IsPiece f from piece → IsPiece f later piece
 IsPiece-later f from later piece l m h = record { ordered = m; same = λ i a b. h.same i (omega arith) b }
 
+-- what of a piece lies below a point, as a piece of a function that is the same up to there
+pub IsPiece-cut : (f g : ℕ → ℕ) (from until : ℕ) (piece cut : Piece) → IsPiece f from piece → from ≤ until → ((i : ℕ) → from ≤ i → i < until → g i ≡ f i)
+    → cut.until ≡ min piece.until until → cut.most ≡ piece.most → IsPiece g from cut
+IsPiece-cut f g from until piece cut h l same end most = record {
+  ordered = omega (arith, h.ordered);
+  same = λ i a b. same i a (omega arith) ∙ h.same i a (omega arith) ∙ sym most;
+}
+
 -- the lesser of two functions, as long as both have their pieces
 pub IsPiece-lesser : (f g h : ℕ → ℕ) (from : ℕ) (one other piece : Piece) → ((i : ℕ) → h i ≡ min (f i) (g i)) → IsPiece f from one → IsPiece g from other
     → piece.until ≡ min one.until other.until → piece.most ≡ min one.most other.most → IsPiece h from piece
