@@ -15,6 +15,10 @@ pub record Profile : Type 0 where
   pub bounds : List Bound
   pub spare : ℕ
 
+-- limits as they are made, with no room to spare
+abbrev pub profile_of : ℕ → ℕ → ℕ → List Zone → List Bound → Profile
+profile_of length train top zones bounds = record { length = length; train = train; top = top; zones = zones; bounds = bounds; spare = 0 }
+
 -- the numbers are in range, and zones and bounds lie on the line
 pub record IsProfile (p : Profile) : Type 0 where
   pub length_least : 2 ≤ p.length

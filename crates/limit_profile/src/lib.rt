@@ -8,7 +8,7 @@ ghost use Rattle.run_rules.specs.Speeds.{squared};
 ghost use Rattle.unit_rules.specs.Zone.{LiesOn};
 ghost use Rattle.limit_profile.specs.Breaks.{Neighbours, breaks_of, zoned_at};
 ghost use Rattle.limit_profile.specs.Levels.{IsLevel};
-ghost use Rattle.limit_profile.specs.Profile.{IsFreed, IsProfile, Profile, cap, caps, rezoned};
+ghost use Rattle.limit_profile.specs.Profile.{IsFreed, IsProfile, Profile, cap, caps, profile_of, rezoned};
 
 mod breaks;
 mod changes;
@@ -98,22 +98,8 @@ impl Limits {
         zones: &[Zone],
         bounds: &[Bound],
     ) -> Result<Limits, Memory>
-        requires { IsProfile (record {
-          length = length;
-          train = train;
-          top = top;
-          zones = zones.now;
-          bounds = bounds.now;
-          spare = 0;
-        }) }
-        ensures { IfOk result (λ l. l ≡ record {
-          length = length;
-          train = train;
-          top = top;
-          zones = zones.now;
-          bounds = bounds.now;
-          spare = 0;
-        }) }
+        requires { IsProfile (profile_of length train top zones.now bounds.now) }
+        ensures { IfOk result (λ l. l ≡ profile_of length train top zones.now bounds.now) }
     {
         let course = Course { length, train, top };
         let pieces = zoned_pieces(alloc, course, zones)?;
