@@ -1,14 +1,10 @@
 -- What contracts see of the shelf, the source and the sink in memory.
-use Rattle.std.specs.Prelude.{ℕ, ◌+◌, ◌-◌, ◌^◌, ◌≤◌, min, List, [], ◌∷◌, length, if◌then◌else◌, Option, Some, None, Contains, ◌⊎◌, ◌≡◌, Result, Ok, Err}
+use Rattle.std.specs.Prelude.{ℕ, ◌≤◌, List, [], ◌∷◌, length, if◌then◌else◌, Option, Some, None, Contains, ◌⊎◌, ◌≡◌, Result, Ok, Err}
 use Rattle.run_io.specs.declared.Fetch.{Fetch}
 use Rattle.run_io.specs.declared.Fetch.TheVariants.{Failed, Absent, TooLong, Memory}
 use Rattle.std.specs.Str.{bytes_eq}
 use Rattle.run_io.specs.Fetches.{Files}
-use Rattle.run_io.specs.Told.{Told}
-
--- a count with one more, up to the end of its type
-abbrev pub one_more : ℕ → ℕ
-one_more count = min (count + 1) (2 ^ 64 - 1)
+use Rattle.run_io.specs.Told.{Told, one_more}
 
 -- a shelf: its files, the numbers of the calls that fail, and how many calls and faults there were
 pub record ShelfState : Type 0 where

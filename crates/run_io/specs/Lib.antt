@@ -1,5 +1,6 @@
 pub mod Told
 pub mod Fetches
+pub mod InHost
 pub mod InMemory
 pub mod Pages
 pub mod Texts

@@ -5,8 +5,8 @@ ghost use Rattle.std.specs.Prelude.{option_map, IfErr, ◌≢◌, ◌^◌, ◌�
 ghost use Rattle.std.specs.Io.{ReadsAtMost};
 ghost use Rattle.std.specs.Io.KnownBytes.{ReadConsumes, WriteAppends};
 ghost use Rattle.run_io.specs.Fetches.{FetchCause, Fetches};
-ghost use Rattle.run_io.specs.InMemory.{ShelfAfter, WriteFails, find_file, one_more, shelf_told, sink_told, source_told};
-ghost use Rattle.run_io.specs.Told.{HasCause};
+ghost use Rattle.run_io.specs.InMemory.{ShelfAfter, WriteFails, find_file, shelf_told, sink_told, source_told};
+ghost use Rattle.run_io.specs.Told.{HasCause, one_more};
 ghost use Rattle.run_io.specs.Writes.{TakesSome};
 
 use crate::{Failed, Fetch, Shelf, Sink, Source};
