@@ -1,7 +1,7 @@
 //! What no clause of `run` says: that a run succeeds where memory is found, and what it writes where a
 //! call of the outside fails.
 
-ghost use Rattle.std.specs.Prelude.{◌≡◌, ◌<◌};
+ghost use Rattle.std.specs.Prelude.{◌<◌};
 
 use super::*;
 use run_io::{MemShelf, MemSink, MemSource};
@@ -24,22 +24,6 @@ const TOY: &[u8] =
 // Its fastest run over ten level metres.
 const RUN: &[u8] =
     b"0 0\n1 20000\n2 40000\n3 60000\n4 80000\n5 100000\n6 103680\n7 77760\n8 51840\n9 25920\n10 0\n";
-
-fn run_counted<L: Ledger>(
-    alloc: Global,
-    words: &[String],
-    shelf: &mut MemShelf,
-    out: &mut MemSink,
-    blank: Blank,
-) -> Status
-    requires name { blank.name ≡ L.name }
-    requires parts { blank.parts ≡ L.parts }
-    requires one { blank.parts ≡ 1 }
-{
-    let mut steps = Steps::<L>::new(blank);
-    let mut input = MemSource::new(Vec::new(alloc), 1, Vec::new(alloc));
-    run(alloc, words, shelf, &mut input, out, &mut steps)
-}
 
 // The outside of a case: the calls of the shelf that fail, the room of the sink, the bytes that it
 // takes at a call, and its calls that fail.
@@ -164,7 +148,8 @@ fn ends_over(
     wanted: Status,
     text: &[u8],
 ) -> bool {
-    let status = run_counted::<Brand>(alloc, words, shelf, out, Blank::new(1));
+    let mut input = MemSource::new(Vec::new(alloc), 1, Vec::new(alloc));
+    let status = start::<_, _, _, Brand>(alloc, words, shelf, &mut input, out, Blank::new(1));
     status == wanted && out.written() == text
 }
 

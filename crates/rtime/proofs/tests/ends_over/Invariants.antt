@@ -1,4 +1,4 @@
 use Rattle.rtime.proofs.tests.ends_over.Given as goal
 
-abbrev pub ghosts-run_counted : goal.ghosts-run_counted
-ghosts-run_counted a = record { name = a.blank.name; parts = a.blank.parts }
+abbrev pub ghosts-start : goal.ghosts-start
+ghosts-start a = record { name = a.blank.name; parts = a.blank.parts }
