@@ -30,11 +30,12 @@ impl<R: Files> HostShelf<R> {
 }
 
 // Reads the front of what is left of a file, of so many bytes, or all where there are no more.
-fn read_front<T: Read>(file: &mut T, most: usize, into: &mut Vec<u8>) -> Result<(), Fetch>
+fn read_front<S: Source>(file: &mut S, most: usize, into: &mut Vec<u8>) -> Result<(), Fetch>
     requires empty { into.old.items ≡ [] }
     ensures bound { length into.new.items ≤ most }
-    ensures front { OnOk result (IfSome (T.remaining file.old)
+    ensures front { OnOk result (IfSome (S.told file.old).holds
         (λ left. into.new.items ≡ take most left)) }
+    ensures cause { FetchCause (S.told file.old) (S.told file.new) result }
     ensures known { IfErr result (λ e. (e ≢ Fetch.Absent) × (e ≢ Fetch.TooLong)) }
 {
     let mut buf = [0u8; 65536];
@@ -52,11 +53,12 @@ fn read_front<T: Read>(file: &mut T, most: usize, into: &mut Vec<u8>) -> Result<
 }
 
 // Fetches what is left of a file.
-fn fetch_left<T: Read>(file: &mut T, most: u64, into: &mut Vec<u8>) -> Result<(), Fetch>
+fn fetch_left<S: Source>(file: &mut S, most: u64, into: &mut Vec<u8>) -> Result<(), Fetch>
     requires empty { into.old.items ≡ [] }
     requires small { most ≤ 2 ^ 40 }
-    ensures bytes { Fetches (option_map (λ left name. Some left) (T.remaining file.old)) [] most
+    ensures bytes { Fetches (option_map (λ left name. Some left) (S.told file.old).holds) [] most
         result into.new.items }
+    ensures cause { FetchCause (S.told file.old) (S.told file.new) result }
     ensures known { IfErr result (λ e. e ≢ Fetch.Absent) }
 {
     let most = most as usize;
@@ -79,11 +81,11 @@ impl<R: Files> Shelf for HostShelf<R> {
         ensures counts { FetchCounts (host_shelf_told self.old) (host_shelf_told self.new)
             result }
     {
-        let Ok(mut file) = fs::open(&self.rt, name) else {
+        let Ok(file) = fs::open(&self.rt, name) else {
             self.faults = self.faults.saturating_add(1);
             return Err(Fetch::Failed);
         };
-        match fetch_left(&mut file, most, into) {
+        match fetch_left(&mut HostSource::new(file), most, into) {
             Err(Fetch::Failed) => {
                 self.faults = self.faults.saturating_add(1);
                 Err(Fetch::Failed)
