@@ -1,2 +1,1 @@
-pub mod JoinFacts
-pub mod SpeedFacts
+mod BandFacts

@@ -1,24 +1,15 @@
 -- The texts that are printed, each a function of its values.
-use Rattle.std.specs.Prelude.{ℕ, ◌==◌, ◌+◌, if◌then◌else◌, List, [], ◌∷◌, ◌++◌, codes, length, map, slice_index, ℤ, pos}
-use Rattle.std.specs.Fmt.{decimal, signed_decimal}
-use Rattle.std.specs.List.{join_with_byte}
-use Rattle.run_io.specs.Texts.{lines_below}
+use Rattle.std.specs.Prelude.{ℕ, zero, suc, ◌+◌, List, [], ◌∷◌, ◌++◌, codes, length, slice_index, pos}
+use Rattle.std.specs.Fmt.{decimal}
+use Rattle.run_io.specs.Texts.{lines_below, numbers_text}
 use Rattle.run_rules.specs.Grids.{row}
 use Rattle.stock_tables.specs.Stock.{StockTable}
 use Rattle.unit_rules.specs.declared.Reach.{Reach}
 use Rattle.unit_rules.specs.declared.Reach.TheVariants.{Whole, Stalled}
 
--- a text behind a space, where it isn't the first
-abbrev pub spaced : ℕ → List ℕ → List ℕ
-spaced place text = if place == 0 then text else codes " " ++ text
-
--- numbers in decimal, one space between, and a line end; 32 is the space
-abbrev pub numbers_text : List ℤ → List ℕ
-numbers_text numbers = join_with_byte 32 (map signed_decimal numbers) ++ codes "\n"
-
 -- a point and its number
 abbrev pub point_line : ℕ → ℕ → List ℕ
-point_line point number = decimal point ++ codes " " ++ decimal number ++ codes "\n"
+point_line point number = numbers_text (pos point ∷ pos number ∷ [])
 
 -- a line for each number of a list by point
 abbrev pub list_text : List ℕ → List ℕ
@@ -31,6 +22,11 @@ train_line stock = numbers_text (pos stock.moved_mass ∷ pos stock.mass ∷ pos
 -- a whole km/h, with the push and the braking there
 abbrev pub speed_line : StockTable → ℕ → List ℕ
 speed_line stock kmh = numbers_text (pos kmh ∷ row stock.push.rows kmh ∷ row stock.brake.rows kmh ∷ [])
+
+-- the lines of the tables of a train: first its numbers, and then each whole km/h
+abbrev pub bands_line : StockTable → ℕ → List ℕ
+bands_line stock zero = train_line stock
+bands_line stock (suc kmh) = speed_line stock kmh
 
 -- the tables of a train, up to its top speed
 abbrev pub bands_text : StockTable → List ℕ

@@ -3,9 +3,8 @@ use Rattle.std.specs.Prelude.{ℕ, ◌*◌, min, List, [], ◌∷◌, ℤ, pos, 
 use Rattle.std.proofs.Common.{refl, arith}
 use Rattle.case_rules.specs.Case.{train_pulls, train_rule}
 use Rattle.line_tables.specs.Table.{LineTable}
-use Rattle.report_text.specs.Texts.{numbers_text}
 use Rattle.run_io.specs.Fetches.{Files}
-use Rattle.run_io.specs.Texts.{lines_below}
+use Rattle.run_io.specs.Texts.{lines_below, numbers_text}
 use Rattle.run_rules.specs.Grids.{row}
 use Rattle.run_rules.specs.Runs.{StepRule}
 use Rattle.run_rules.specs.Speeds.{squared}

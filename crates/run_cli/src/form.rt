@@ -12,7 +12,7 @@ ghost use Rattle.run_cli.specs.declared.status.Status.{Status as Ending};
 ghost use Rattle.run_words.specs.Requests.{Request};
 
 use crate::Status;
-use run_io::{Failed, Page, Shelf, Sink, Source};
+use run_io::{Block, Failed, Shelf, Sink, Source};
 use std::alloc::Global;
 use std::sync::ledger::Ledger;
 use unit_rules::{Memory, Steps};
@@ -138,9 +138,9 @@ fn work<F: Form, K: Sink, L: Ledger>(
 pub(crate) fn refuse<K: Sink>(status: Status, out: &mut K) -> Status
     ensures { Finishes status (K.told out.old) (K.told out.new) result }
 {
-    let mut page = Page::new();
-    status.put(&mut page);
-    match page.flush(out) {
+    let mut block = Block::new();
+    status.put(&mut block);
+    match block.flush(out) {
         Ok(()) => status,
         Err(Failed) => Status::WriteFault,
     }

@@ -7,9 +7,6 @@ ghost use Rattle.run_cli.specs.Forms.{meaning_of};
 ghost use Rattle.run_cli.specs.Loads.{Loads};
 ghost use Rattle.run_cli.specs.Rise.{rise_allows, rise_line, rise_means, rise_text, shown_rise};
 ghost use Rattle.run_cli.specs.declared.status.Status.TheVariants.{Done};
-ghost use Rattle.run_io.specs.Pages.{Carries};
-ghost use Rattle.run_io.specs.Texts.{lines_below};
-ghost use Rattle.run_io.specs.Told.{HasCause, Writes, WritesFront};
 ghost use Rattle.run_rules.specs.Speeds.{squared};
 ghost use Rattle.run_words.specs.Requests.{rise_view};
 ghost use Rattle.step_rule.specs.Motion.{cells_of, most_of, step_rule_of};
@@ -20,13 +17,11 @@ use crate::form::{Form, Report};
 use crate::rise_report::RiseReport;
 use case_rules::{pulls_on, rule_by};
 use line_tables::Line;
-use report_text::put_numbers;
-use run_io::{Failed, Page, Shelf, Sink};
+use run_io::{Block, Failed, Rows, Shelf, Sink, write_rows};
 use run_rules::squared;
 use run_words::RiseForm;
 use std::alloc::Global;
 use std::sync::ledger::Ledger;
-use step_rule::Rule;
 use stock_tables::Stock;
 use unit_rules::{Memory, Steps};
 
@@ -38,11 +33,31 @@ impl Report for RiseReport {
     ghost work = { λ r. 2 * cells_of r.rule };
 
     fn write<K: Sink, L: Ledger>(&self, out: &mut K, steps: &mut Steps<L>) -> Result<(), Failed> {
-        write_rise(out, &self.rule, self.pulls.as_slice(), self.before, steps)
+        write_rows(out, self, self.cells as usize, steps)
     }
 
     fn status(&self) -> Status {
         Status::Done
+    }
+}
+
+impl<L: Ledger> Rows<Steps<L>> for RiseReport {
+    ghost count = { λ r. r.cells };
+
+    ghost text = { λ r. rise_line (step_rule_of r.rule) r.pulls.items r.before };
+
+    ghost counted = { λ steps. steps };
+
+    ghost cost = { 2 };
+
+    fn put(&self, place: usize, block: &mut Block, steps: &mut Steps<L>) {
+        let cell = place as u32;
+        block.put_line(&[
+            cell as i64,
+            self.pulls[place],
+            self.rule.up(cell, self.before, steps),
+            self.rule.low(cell, self.before, steps),
+        ]);
     }
 }
 
@@ -93,62 +108,11 @@ fn rise_from(alloc: Global, line: &Line, stock: Stock, kmh: u32) -> Result<RiseR
     let Ok(shown) = Vec::from_slice(alloc, pulls.as_slice()) else {
         return Err(Memory);
     };
+    let rule = rule_by(line, stock, pulls);
     Ok(RiseReport {
-        rule: rule_by(line, stock, pulls),
+        cells: rule.cells(),
+        rule,
         pulls: shown,
         before,
     })
-}
-
-// Writes a line for each cell, from the squared speed `before` it.
-fn write_rise<K: Sink, L: Ledger>(
-    out: &mut K,
-    rule: &Rule,
-    pulls: &[i64],
-    before: u32,
-    steps: &mut Steps<L>,
-) -> Result<(), Failed>
-    requires pulls { pulls.now ≡ rule.now.pulls }
-    requires in_range { before ≤ most_of rule.now }
-    ensures ok { OnOk result (Writes (K.told out.old) (K.told out.new) (lines_below
-        (rise_line (step_rule_of rule.now) pulls.now before) (cells_of rule.now))) }
-    ensures failed { OnErr result (WritesFront (K.told out.old) (K.told out.new) (lines_below
-        (rise_line (step_rule_of rule.now) pulls.now before) (cells_of rule.now))) }
-    ensures cause { HasCause (K.told out.old) (K.told out.new) result }
-    ensures steps { steps.new ≤ steps.old + 2 * cells_of rule.now }
-{
-    let mut page = Page::new();
-    for cell in 0..rule.cells() {
-        put_rise(&mut page, out, rule, pulls, before, cell, steps)?;
-    }
-    page.flush(out)
-}
-
-// Puts the line of a cell, from the squared speed `before` it.
-fn put_rise<K: Sink, L: Ledger>(
-    page: &mut Page,
-    out: &mut K,
-    rule: &Rule,
-    pulls: &[i64],
-    before: u32,
-    cell: u32,
-    steps: &mut Steps<L>,
-) -> Result<(), Failed>
-    requires pulls { pulls.now ≡ rule.now.pulls }
-    requires in_range { before ≤ most_of rule.now }
-    requires cell { cell < cells_of rule.now }
-    ensures ok { OnOk result (Carries (K.told out.old) page.old (K.told out.new) page.new
-        (rise_line (step_rule_of rule.now) pulls.now before cell)) }
-    ensures failed { OnErr result (WritesFront (K.told out.old) (K.told out.new)
-        (page.old ++ rise_line (step_rule_of rule.now) pulls.now before cell)) }
-    ensures cause { HasCause (K.told out.old) (K.told out.new) result }
-    ensures steps { steps.new ≡ steps.old + 2 }
-{
-    let numbers = [
-        cell as i64,
-        pulls[cell as usize],
-        rule.up(cell, before, steps),
-        rule.low(cell, before, steps),
-    ];
-    put_numbers(page, out, &numbers)
 }

@@ -6,7 +6,7 @@ ghost use Rattle.run_cli.specs.Statuses.{law_rule, line_status, status_text, sto
 ghost use Rattle.run_cli.specs.declared.status.Status.TheVariants.{Memory as NoMemory, WriteFault};
 
 use line_tables::LineFault;
-use run_io::{Failed, Page};
+use run_io::{Block, Failed};
 use stock_tables::StockFault;
 use unit_rules::Memory;
 
@@ -53,33 +53,33 @@ impl Status {
         }
     }
 
-    // Puts the text of the status on an empty page.
-    pub(crate) fn put(&self, page: &mut Page)
-        requires { page.old ≡ [] }
-        ensures { page.new ≡ status_text self.now }
+    // Puts the text of the status on an empty block, from its end on.
+    pub(crate) fn put(&self, block: &mut Block)
+        requires { block.old ≡ [] }
+        ensures { block.new ≡ status_text self.now }
     {
         match *self {
-            Status::Usage => page.put(b"usage\n"),
+            Status::Usage => block.put(b"usage\n"),
             Status::Refused { file, place, rule } => {
-                page.put(b"refused ");
-                page.put_number(file as u64);
-                page.put(b" ");
-                page.put_number(place);
-                page.put(b" ");
-                page.put_number(rule as u64);
-                page.put(b"\n");
+                block.put(b"\n");
+                block.put_number(rule as u64);
+                block.put(b" ");
+                block.put_number(place);
+                block.put(b" ");
+                block.put_number(file as u64);
+                block.put(b"refused ");
             }
             Status::NotValid { rule, point } => {
-                page.put(b"not valid ");
-                page.put_number(rule as u64);
-                page.put(b" ");
-                page.put_number(point as u64);
-                page.put(b"\n");
+                block.put(b"\n");
+                block.put_number(point as u64);
+                block.put(b" ");
+                block.put_number(rule as u64);
+                block.put(b"not valid ");
             }
             Status::TooLong { file } => {
-                page.put(b"too long ");
-                page.put_number(file as u64);
-                page.put(b"\n");
+                block.put(b"\n");
+                block.put_number(file as u64);
+                block.put(b"too long ");
             }
             _ => {}
         }

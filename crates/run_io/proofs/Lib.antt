@@ -1,5 +1,6 @@
+mod BlockFacts
 pub mod ErrFacts
-pub mod PageFacts
+pub mod LineFacts
 pub mod ReadFacts
 pub mod TextFacts
 pub mod Written

@@ -2,6 +2,5 @@ pub mod Told
 pub mod Fetches
 pub mod InHost
 pub mod InMemory
-pub mod Pages
 pub mod Texts
 pub mod Writes

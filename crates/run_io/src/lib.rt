@@ -1,6 +1,6 @@
 //! The outside of a run: a shelf of files, a source of input and a sink of output, each with a count
-//! of its faults; their forms in memory and their real adapters; and pages and blocks of text on their
-//! way out.
+//! of its faults; their forms in memory and their real adapters; and lines and rows of text, which go
+//! out in blocks.
 #![tactic(auto)]
 
 ghost use Rattle.std.specs.Prelude.{◌≡◌, ℕ, ◌^◌, ◌<◌, ◌≤◌, List, [], length, Option, OnOk, OnErr};
@@ -13,12 +13,12 @@ ghost use Rattle.run_io.specs.Writes.{TakesSome};
 mod blocks;
 mod host;
 mod memory;
-mod pages;
+mod rows;
 
 pub use blocks::{BLOCK, Block};
 pub use host::{HostShelf, HostSink, HostSource};
 pub use memory::{MemShelf, MemSink, MemSource};
-pub use pages::{PAGE, Page};
+pub use rows::{ROW, Rows, write_rows};
 
 /// A read or a write failed.
 #[derive(Clone, Copy, Debug, PartialEq, Eq)]

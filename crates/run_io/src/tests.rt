@@ -55,27 +55,6 @@ fn forms_in_memory(rt: HostRuntime) -> Result<(), Fail> {
 }
 
 #[test]
-fn pages_go_out_whole(rt: HostRuntime) -> Result<(), Fail> {
-    let alloc = rt.alloc();
-    let sink = MemSink::new(alloc, 30_000, 30_000, Vec::new(alloc));
-    assert!(rt; sink.is_ok());
-    let Ok(mut sink) = sink else {
-        return Ok(());
-    };
-    let mut page = Page::new();
-    for number in 0..4_000 {
-        assert!(rt; page.make_room(&mut sink, 21) == Ok(()));
-        page.put_number(number);
-        page.put(b"\n");
-    }
-    assert!(rt; page.flush(&mut sink) == Ok(()));
-    assert!(rt; sink.written().starts_with(b"0\n1\n2\n"));
-    assert!(rt; sink.written().ends_with(b"\n3998\n3999\n"));
-    assert_eq!(rt; sink.written().len(), 10 * 2 + 90 * 3 + 900 * 4 + 3_000 * 5);
-    Ok(())
-}
-
-#[test]
 fn real_shelf(rt: HostRuntime) -> Result<(), Fail> {
     let alloc = rt.alloc();
     let mut path = String::from_str(alloc, env::temp_dir(&rt)?.as_str())?;
