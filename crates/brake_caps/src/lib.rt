@@ -4,10 +4,10 @@
 
 ghost use Rattle.std.specs.Prelude.{◌≡◌, ◌≢◌, ℕ, ◌+◌, ◌-◌, ◌*◌, ◌<◌, ◌≤◌, length, slice_index};
 ghost use Rattle.run_rules.specs.Runs.{IsBrakingList};
-ghost use Rattle.run_rules.specs.Walks.{IsGreatestAt, IsGreatestNumber};
+ghost use Rattle.run_rules.specs.Walks.{AgreeOutside, IsGreatestAt, IsGreatestNumber, IsOwnBrakingList};
 ghost use Rattle.limit_profile.specs.Levels.{IsLevel};
 ghost use Rattle.limit_profile.specs.Profile.{caps};
-ghost use Rattle.step_rule.specs.Motion.{cells_of, kmh_of, step_rule_of};
+ghost use Rattle.step_rule.specs.Motion.{cells_of, kmh_of, most_of, step_rule_of};
 
 #[cfg(test)]
 mod tests;
@@ -39,9 +39,10 @@ pub fn walk_back<L: Ledger>(
     requires before { (i : ℕ) → i < from
         → IsGreatestAt (step_rule_of rule.now) (caps limits.now) c.old i }
     ensures list { IsBrakingList (step_rule_of rule.now) (caps limits.now) c.new }
+    ensures brakes { IsOwnBrakingList (step_rule_of rule.now) (cells_of rule.now)
+        (most_of rule.now) c.new }
     ensures lowest { result ≤ from }
-    ensures kept { (i : ℕ) → i < result → slice_index c.new i ≡ slice_index c.old i }
-    ensures kept_past { (i : ℕ) → to < i → slice_index c.new i ≡ slice_index c.old i }
+    ensures agree { AgreeOutside c.old c.new result to }
     ensures changed { (i : ℕ) → result ≤ i → i < from → slice_index c.new i ≢ slice_index c.old i }
     ensures cost { steps.new ≤ steps.old + 33 * (to + 2 - result) }
     ensures end_cost { to ≡ limits.now.length → steps.new ≤ steps.old + 33 * (to + 1 - result) }

@@ -2,12 +2,11 @@
 //! end of the line or to the first point that no train gets to.
 #![tactic(auto)]
 
-ghost use Rattle.std.specs.Prelude.{◌≡◌, ◌≢◌, ℕ, ◌+◌, ◌<◌, ◌≤◌, pos, ◌≤ℤ◌, ◌↔◌, List, length, slice_index, IfNone, IfSome, IsTrue, Some};
-ghost use Rattle.run_rules.specs.Drives.{AgreeAt, EnvelopesAgreeAfter, EnvelopesAgreeBefore, IsOnlyReach, reach_of};
-ghost use Rattle.run_rules.specs.Runs.{IsBrakingList, ReachesAs};
-ghost use Rattle.run_rules.specs.Walks.{EndsAt, IsBlockedAfter, IsNextNumber, IsOlderEnvelope, IsOlderWalk, count_of, known_at};
+ghost use Rattle.std.specs.Prelude.{◌≡◌, ℕ, ◌+◌, ◌<◌, ◌≤◌, ◌↔◌, List, length, slice_index, IfNone, IfSome, IsTrue, Some};
+ghost use Rattle.run_rules.specs.Drives.{AgreeAt, EnvelopesAgreeAfter, EnvelopesAgreeBefore, HoldsEnvelope, IsOnlyReach, ReachesUnderCaps, reach_of};
+ghost use Rattle.run_rules.specs.Runs.{ReachesAs};
+ghost use Rattle.run_rules.specs.Walks.{AgreeOutside, EndsAt, IsBlockedAfter, IsNextNumber, IsOwnBrakingList, count_of, known_at};
 ghost use Rattle.step_rule.specs.Motion.{cells_of, most_of, step_rule_of};
-ghost use Rattle.effort_run.specs.Next.{IsNext};
 
 use std::sync::ledger::Ledger;
 use step_rule::Rule;
@@ -24,11 +23,11 @@ pub struct Walk {
 }
 
 /// Makes `e` the envelope under `c`: the greatest squared speeds by point, in (0.01 km/h)², up to the
-/// end of the line or its stall. `c`, taken as caps, is its own braking list, and no number of it is
-/// past the train's top speed. Both have a number for each point.
+/// end of the line or its stall. `c` is as `walk_back` makes it: taken as caps, it is its own braking
+/// list, and no number of it is past the train's top speed. Both have a number for each point.
 ///
 /// A first walk has `known` 0 and the whole line as `from..=to`. In a repeated one the first `known`
-/// numbers of `e` are the envelope of an older list, which agrees with `c` outside `from..=to`; the
+/// numbers of `e` are the envelope under an older list, which agrees with `c` outside `from..=to`; the
 /// walk then ends at the first number past `to` that is as before. Numbers past a stall mean nothing.
 pub fn walk_on<L: Ledger>(
     rule: &Rule,
@@ -39,28 +38,26 @@ pub fn walk_on<L: Ledger>(
     known: u32,
     steps: &mut Steps<L>,
 ) -> Walk
-    requires points { length c.now ≡ cells_of rule.now + 1 }
+    requires brakes { IsOwnBrakingList (step_rule_of rule.now) (cells_of rule.now)
+        (most_of rule.now) c.now }
     requires same_points { length e.old ≡ length c.now }
-    requires in_range { (i : ℕ) → i < length c.now → slice_index c.now i ≤ most_of rule.now }
     requires ordered { from ≤ to }
     requires on_line { to ≤ cells_of rule.now }
-    requires braking_list { IsBrakingList (step_rule_of rule.now) c.now c.now }
     requires first { known ≡ 0 → (from ≡ 0) × (to ≡ cells_of rule.now) }
-    requires older { 1 ≤ known
-        → IsOlderEnvelope (step_rule_of rule.now) (most_of rule.now) c.now e.old from to known }
+    requires older { 1 ≤ known → (b : List ℕ) × AgreeOutside b c.now from to
+        × HoldsEnvelope (step_rule_of rule.now) (cells_of rule.now) (most_of rule.now)
+        b e.old known }
     ensures reach { ReachesAs (step_rule_of rule.now) c.now e.new result.reach }
     ensures only { IsOnlyReach (step_rule_of rule.now) c.now result.reach }
-    // so it is under the caps too that `c` is the braking list of
-    ensures under_caps { (x : List ℕ) → IsBrakingList (step_rule_of rule.now) x c.now
-        → ReachesAs (step_rule_of rule.now) x e.new result.reach }
+    ensures under_caps { ReachesUnderCaps (step_rule_of rule.now) c.now e.new result.reach }
     ensures last_least { to ≤ result.last }
     ensures last_most { result.last ≤ cells_of rule.now }
     ensures same_before { let n = count_of (length c.now) result.reach in
-        (i : ℕ) → i < from → known_at e.new n i ≡ known_at e.old known i }
+        (i : ℕ) → i < from → AgreeAt e.new n e.old known i }
     ensures same_past { let n = count_of (length c.now) result.reach in
-        (i : ℕ) → result.last < i → known_at e.new n i ≡ known_at e.old known i }
+        (i : ℕ) → result.last < i → AgreeAt e.new n e.old known i }
     ensures differs { let n = count_of (length c.now) result.reach in
-        (i : ℕ) → to < i → i ≤ result.last → known_at e.new n i ≢ known_at e.old known i }
+        (i : ℕ) → to < i → i ≤ result.last → AgreeAt e.new n e.old known i → ⊥ }
     ensures cost { steps.new + from ≤ steps.old + result.last + 2 }
     ensures first_cost { known ≡ 0 → steps.new ≤ steps.old + cells_of rule.now }
 {
@@ -72,9 +69,9 @@ pub fn walk_on<L: Ledger>(
     }
 }
 
-/// The laws of envelopes that follow from the definitions alone, under caps that agree outside
-/// `from..=to`: the envelopes agree before `from`, and from a point on at which they agree past the
-/// change.
+/// The laws of envelopes that follow from the definitions alone, under two lists that are braking lists
+/// of their own and agree outside `from..=to`: the envelopes agree before `from`, and from a point past
+/// the change on at which they agree.
 pub fn laws_of_envelopes()
     ensures before { EnvelopesAgreeBefore }
     ensures after { EnvelopesAgreeAfter }
@@ -103,8 +100,8 @@ fn drive<L: Ledger>(rule: &Rule, c: &[u32], part: Part, e: &mut [u32], steps: &m
     requires ordered { part.from ≤ part.to }
     requires on_line { part.to ≤ cells_of rule.now }
     requires first { part.known ≡ 0 → (part.from ≡ 0) × (part.to ≡ cells_of rule.now) }
-    requires older { 1 ≤ part.known
-        → IsOlderWalk (step_rule_of rule.now) c.now e.old part.from part.to part.known }
+    requires older { 1 ≤ part.known → (b : List ℕ) × AgreeOutside b c.now part.from part.to
+        × EndsAt (step_rule_of rule.now) b e.old part.known }
     ensures ends { EndsAt (step_rule_of rule.now) c.now e.new result.known }
     ensures last_least { part.to ≤ result.last }
     ensures last_most { result.last ≤ cells_of rule.now }
@@ -161,14 +158,6 @@ fn number_after<L: Ledger>(
         return Some(cap);
     }
     let up = rule.up_near(i, now, near, steps);
-    next_speed(now, up, cap)
-}
-
-// The greatest squared speed that `cap` and `up` allow, unless it is a standstill after another.
-fn next_speed(now: u32, up: i64, cap: u32) -> Option<u32>
-    ensures next { IfSome result (λ w. IsNext now up cap w) }
-    ensures none { IfNone result ((u : ℕ) → u ≤ cap → pos u ≤ℤ up → u + now < 1) }
-{
     let most = up.min(i64::from(cap));
     if most < 0 || now == 0 && most == 0 {
         return None;

@@ -108,4 +108,3 @@ fn serve_request<S: Shelf, I: Source, K: Sink, L: Ledger>(
         Request::Envelope(form) => serve(alloc, &form, shelf, input, out, steps),
     }
 }
-

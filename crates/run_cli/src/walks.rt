@@ -3,7 +3,8 @@
 ghost use Rattle.std.specs.Prelude.{◌≡◌, ◌≤◌, ◌+◌, ◌*◌, IfOk};
 ghost use Rattle.limit_profile.specs.Profile.{caps};
 ghost use Rattle.run_rules.specs.Runs.{IsBrakingList};
-ghost use Rattle.step_rule.specs.Motion.{cells_of, kmh_of, step_rule_of};
+ghost use Rattle.run_rules.specs.Walks.{IsOwnBrakingList};
+ghost use Rattle.step_rule.specs.Motion.{cells_of, kmh_of, most_of, step_rule_of};
 
 use brake_caps::walk_back;
 use limit_profile::Limits;
@@ -23,6 +24,8 @@ pub(crate) fn braking_list<L: Ledger>(
     requires same_top { limits.now.top ≡ kmh_of rule.now }
     ensures list { IfOk result (λ list.
         IsBrakingList (step_rule_of rule.now) (caps limits.now) list.items) }
+    ensures brakes { IfOk result (λ list. IsOwnBrakingList (step_rule_of rule.now)
+        (cells_of rule.now) (most_of rule.now) list.items) }
     ensures steps { steps.new ≤ steps.old + 33 * (cells_of rule.now + 1) }
 {
     let cells = rule.cells();

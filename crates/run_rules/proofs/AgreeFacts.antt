@@ -4,9 +4,9 @@ use Rattle.std.proofs.lemmas.Bool.{cases_lt}
 use Rattle.std.proofs.lemmas.Bool.Decides.{nat_tests}
 use Rattle.unit_rules.specs.declared.Reach.{Reach}
 use Rattle.unit_rules.specs.declared.Reach.TheVariants.{Whole, Stalled}
-use Rattle.run_rules.specs.Drives.{AgreeAt, AgreeOutside, EnvelopesAgreeAfter, EnvelopesAgreeBefore, HoldsEnvelope}
+use Rattle.run_rules.specs.Drives.{AgreeAt, EnvelopesAgreeAfter, EnvelopesAgreeBefore, HoldsEnvelope}
 use Rattle.run_rules.specs.Runs.{IsEnvelopeTo, IsMonotone, IsStalled, ReachesAs, StepRule}
-use Rattle.run_rules.specs.Walks.{EndsAt, count_of, known_at}
+use Rattle.run_rules.specs.Walks.{AgreeOutside, EndsAt, count_of, known_at}
 use Rattle.run_rules.proofs.DrivingFacts.{IsDrivable, IsDrivable-braking_list, IsNextNumber-same}
 use Rattle.run_rules.proofs.EnvelopeFacts.{EndsAt-envelope}
 use Rattle.run_rules.proofs.ResumeFacts.{known_at-some}
@@ -21,10 +21,11 @@ EndsAt-reaches rule cells c e (Stalled k) line points same stall =
     subst (λ n. EndsAt rule c e n) back (EndsAt-envelope rule c e (k - 1) line same (omega arith) (λ h. absurd (omega arith))
     (λ h. subst (λ n. IsStalled rule c n × IsEnvelopeTo rule c (take n e) n) (sym back) stall))
 
-EndsAt-holds : (rule : StepRule) (cells top : ℕ) (c e : List ℕ) (n : ℕ) → IsMonotone rule cells top → length c ≡ cells + 1 → HoldsEnvelope rule top c e n → EndsAt rule c e n
-EndsAt-holds rule cells top c e n mono points holds =
-    let line = IsDrivable-braking_list rule c cells top mono points holds.small holds.list in
-    subst (λ k. EndsAt rule c e k) holds.reaches.2 (EndsAt-reaches rule cells c e holds.reaches.0 line points holds.same_points holds.reaches.1)
+-- an envelope ends where its numbers do
+pub EndsAt-holds : (rule : StepRule) (cells top : ℕ) (c e : List ℕ) (n : ℕ) → IsMonotone rule cells top → HoldsEnvelope rule cells top c e n → EndsAt rule c e n
+EndsAt-holds rule cells top c e n mono holds =
+    let line = IsDrivable-braking_list rule cells top c mono holds.brakes in
+    subst (λ k. EndsAt rule c e k) holds.reaches.2 (EndsAt-reaches rule cells c e holds.reaches.0 line holds.brakes.points holds.same_points holds.reaches.1)
 
 known_at-known : (e : List ℕ) (n i : ℕ) → i < n → known_at e n i ≡ Some (slice_index e i)
 known_at-known e n i l = grind (arith, nat_tests)
@@ -98,11 +99,9 @@ AgreeAt-after rule b c d e from to n m i caps first second past agree (suc t) j 
     rw next (AgreeAt-next rule b c d e n m (i + t) caps.same_points first second (caps.agrees (i + t + 1) (inr (omega arith))) before)
 
 pub envelopes_agree_before : EnvelopesAgreeBefore
-envelopes_agree_before rule cells top from to b c d e n m mono points caps one other =
-    let same = caps.same_points in
-    AgreeAt-before rule b c d e from to n m caps (EndsAt-holds rule cells top b d n mono (omega arith) one) (EndsAt-holds rule cells top c e m mono points other)
+envelopes_agree_before rule cells top from to b c d e n m mono caps one other =
+    AgreeAt-before rule b c d e from to n m caps (EndsAt-holds rule cells top b d n mono one) (EndsAt-holds rule cells top c e m mono other)
 
 pub envelopes_agree_after : EnvelopesAgreeAfter
-envelopes_agree_after rule cells top from to b c d e n m mono points caps one other i j past later agree =
-    let same = caps.same_points in
-    AgreeAt-after rule b c d e from to n m i caps (EndsAt-holds rule cells top b d n mono (omega arith) one) (EndsAt-holds rule cells top c e m mono points other) past agree (j - i) j (omega arith)
+envelopes_agree_after rule cells top from to b c d e n m mono caps one other i j past later agree =
+    AgreeAt-after rule b c d e from to n m i caps (EndsAt-holds rule cells top b d n mono one) (EndsAt-holds rule cells top c e m mono other) past agree (j - i) j (omega arith)

@@ -3,9 +3,9 @@ use Rattle.std.proofs.Common.{◌≡◌, ℕ, zero, suc, ◌+◌, ◌-◌, ◌<�
 use Rattle.std.proofs.lemmas.Bool.{cases_eq, cases_lt}
 use Rattle.std.proofs.lemmas.Int.{ints}
 use Rattle.std.proofs.lemmas.List.{get_or-replicate, length-replicate}
-use Rattle.run_rules.specs.Laws.{BrakesAlikeBelow, BrakesAlikePast, DifferWithin, StandingBrakes}
+use Rattle.run_rules.specs.Laws.{BrakesAlikeBelow, BrakesAlikePast, StandingBrakes}
 use Rattle.run_rules.specs.Runs.{IsBrakingList, Keeps, StepRule}
-use Rattle.run_rules.specs.Walks.{IsGreatestAt, IsGreatestNumber}
+use Rattle.run_rules.specs.Walks.{AgreeOutside, IsGreatestAt, IsGreatestNumber}
 use Rattle.run_rules.proofs.RunFacts.{keeps_less}
 
 -- c has the greatest number at each point from p on
@@ -143,27 +143,27 @@ IsGreatestAt-agree rule x y c d i same cap next a b =
     omega arith
 
 -- so they agree from the end of the line down to the caps that differ, with n points past i
-agree_past : (rule : StepRule) (x y c d : List ℕ) (from to : ℕ) → DifferWithin x y from to → IsBrakingList rule x c → IsBrakingList rule y d
+agree_past : (rule : StepRule) (x y c d : List ℕ) (from to : ℕ) → AgreeOutside x y from to → IsBrakingList rule x c → IsBrakingList rule y d
     → (n i : ℕ) → to < i → i + n + 1 ≡ length x → slice_index c i ≡ slice_index d i
-agree_past rule x y c d from to differ a b zero i h e =
-    let same = differ.same_points in
-    IsGreatestAt-agree rule x y c d i same (differ.outside i (inr h)) (λ l. absurd (omega arith)) (points_by_braking_list rule x c a i (omega arith)) (points_by_braking_list rule y d b i (omega arith))
-agree_past rule x y c d from to differ a b (suc n) i h e =
-    let same = differ.same_points in
-    let next = agree_past rule x y c d from to differ a b n (i + 1) (omega arith) (omega arith) in
-    IsGreatestAt-agree rule x y c d i same (differ.outside i (inr h)) (λ l. next) (points_by_braking_list rule x c a i (omega arith)) (points_by_braking_list rule y d b i (omega arith))
+agree_past rule x y c d from to agree a b zero i h e =
+    let same = agree.same_points in
+    IsGreatestAt-agree rule x y c d i same (agree.agrees i (inr h)) (λ l. absurd (omega arith)) (points_by_braking_list rule x c a i (omega arith)) (points_by_braking_list rule y d b i (omega arith))
+agree_past rule x y c d from to agree a b (suc n) i h e =
+    let same = agree.same_points in
+    let next = agree_past rule x y c d from to agree a b n (i + 1) (omega arith) (omega arith) in
+    IsGreatestAt-agree rule x y c d i same (agree.agrees i (inr h)) (λ l. next) (points_by_braking_list rule x c a i (omega arith)) (points_by_braking_list rule y d b i (omega arith))
 
 pub brakes_alike_past : BrakesAlikePast
-brakes_alike_past rule x y c d from to i differ a b h l = agree_past rule x y c d from to differ a b (length x - i - 1) i h (omega arith)
+brakes_alike_past rule x y c d from to i agree a b h l = agree_past rule x y c d from to agree a b (length x - i - 1) i h (omega arith)
 
 -- and from a point below them down, n points below it
-agree_below : (rule : StepRule) (x y c d : List ℕ) (from to j : ℕ) → DifferWithin x y from to → IsBrakingList rule x c → IsBrakingList rule y d → j < from → j < length x → slice_index c j ≡ slice_index d j
+agree_below : (rule : StepRule) (x y c d : List ℕ) (from to j : ℕ) → AgreeOutside x y from to → IsBrakingList rule x c → IsBrakingList rule y d → j < from → j < length x → slice_index c j ≡ slice_index d j
     → (n i : ℕ) → i + n ≡ j → slice_index c i ≡ slice_index d i
-agree_below rule x y c d from to j differ a b h l there zero i e = let here : i ≡ j = omega arith in rw here there
-agree_below rule x y c d from to j differ a b h l there (suc n) i e =
-    let same = differ.same_points in
-    let next = agree_below rule x y c d from to j differ a b h l there n (i + 1) (omega arith) in
-    IsGreatestAt-agree rule x y c d i same (differ.outside i (inl (omega arith))) (λ k. next) (points_by_braking_list rule x c a i (omega arith)) (points_by_braking_list rule y d b i (omega arith))
+agree_below rule x y c d from to j agree a b h l there zero i e = let here : i ≡ j = omega arith in rw here there
+agree_below rule x y c d from to j agree a b h l there (suc n) i e =
+    let same = agree.same_points in
+    let next = agree_below rule x y c d from to j agree a b h l there n (i + 1) (omega arith) in
+    IsGreatestAt-agree rule x y c d i same (agree.agrees i (inl (omega arith))) (λ k. next) (points_by_braking_list rule x c a i (omega arith)) (points_by_braking_list rule y d b i (omega arith))
 
 pub brakes_alike_below : BrakesAlikeBelow
-brakes_alike_below rule x y c d from to i j differ a b h l there m = agree_below rule x y c d from to j differ a b h l there (j - i) i (omega arith)
+brakes_alike_below rule x y c d from to i j agree a b h l there m = agree_below rule x y c d from to j agree a b h l there (j - i) i (omega arith)

@@ -3,8 +3,8 @@ use Rattle.std.proofs.Common.{◌≡◌, ℕ, zero, suc, ◌+◌, ◌-◌, ◌<�
 use Rattle.std.proofs.lemmas.Bool.{cases_eq, cases_lt}
 use Rattle.std.proofs.lemmas.Int.{ints}
 use Rattle.std.proofs.lemmas.List.{places, take_at, length-take-le, get_or-take, take_all, drop_all}
-use Rattle.run_rules.specs.Runs.{IsBrakingList, IsEnvelopeTo, IsGreatestRun, IsMonotone, Keeps, StepRule}
-use Rattle.run_rules.specs.Walks.{IsBlockedAfter, IsNextNumber}
+use Rattle.run_rules.specs.Runs.{IsEnvelopeTo, IsGreatestRun, IsMonotone, Keeps, StepRule}
+use Rattle.run_rules.specs.Walks.{IsBlockedAfter, IsNextNumber, IsOwnBrakingList}
 
 -- caps under which the train can be driven: up to each cap neither bound of the rule falls, the least is at most the
 -- greatest, and from each cap the train brakes to the next
@@ -14,14 +14,16 @@ pub record IsDrivable (rule : StepRule) (c : List ℕ) : Type 0 where
   pub low_le_up : (i u : ℕ) → i + 1 < length c → u ≤ slice_index c i → rule.low i u ≤ℤ rule.up i u
   pub braked : (i : ℕ) → i + 1 < length c → rule.low i (slice_index c i) ≤ℤ pos (slice_index c (i + 1))
 
--- as under caps that are their own braking list
-pub IsDrivable-braking_list : (rule : StepRule) (c : List ℕ) (cells top : ℕ) → IsMonotone rule cells top → length c ≡ cells + 1 → ((i : ℕ) → i < length c → slice_index c i ≤ top) → IsBrakingList rule c c → IsDrivable rule c
-IsDrivable-braking_list rule c cells top mono points small list = record {
-  up_rises = λ i u v l h m. mono.up_rises i u v (omega arith) h (let s = small i (omega arith) in omega arith);
-  low_rises = λ i u v l h m. mono.low_rises i u v (omega arith) h (let s = small i (omega arith) in omega arith);
-  low_le_up = λ i u l h. mono.low_le_up i u (omega arith) (let s = small i (omega arith) in omega arith);
-  braked = list.keeps.braked;
-}
+-- as under a list that is its own braking list
+pub IsDrivable-braking_list : (rule : StepRule) (cells top : ℕ) (c : List ℕ) → IsMonotone rule cells top → IsOwnBrakingList rule cells top c → IsDrivable rule c
+IsDrivable-braking_list rule cells top c mono brakes =
+    let points = brakes.points in
+    record {
+      up_rises = λ i u v l h m. mono.up_rises i u v (omega arith) h (let s = brakes.small i (omega arith) in omega arith);
+      low_rises = λ i u v l h m. mono.low_rises i u v (omega arith) h (let s = brakes.small i (omega arith) in omega arith);
+      low_le_up = λ i u l h. mono.low_le_up i u (omega arith) (let s = brakes.small i (omega arith) in omega arith);
+      braked = brakes.list.keeps.braked;
+    }
 
 -- the first n numbers of e are each the greatest that the caps and full effort allow
 pub record IsDriven (rule : StepRule) (c e : List ℕ) (n : ℕ) : Type 0 where

@@ -4,9 +4,9 @@ use Rattle.std.proofs.lemmas.Bool.{cases_lt}
 use Rattle.std.proofs.lemmas.Int.{ints}
 use Rattle.std.proofs.lemmas.List.{get_or-take, take_all}
 use borrow.Author.Differences.{up}
-use Rattle.run_rules.specs.Runs.{IsEnvelopeTo, IsGreatestRun, IsMonotone, IsStalled, Keeps, StepRule}
-use Rattle.run_rules.specs.Walks.{EndsAt, IsBlockedAfter, IsNextNumber, IsOlderEnvelope, IsOlderWalk}
-use Rattle.run_rules.proofs.DrivingFacts.{IsDrivable, IsDrivable-braking_list, IsDriven, IsDriven-capped, IsDriven-most, IsDriven-same, IsDriven-set, joined, joined-before, joined_keeps}
+use Rattle.run_rules.specs.Runs.{IsEnvelopeTo, IsGreatestRun, IsStalled, Keeps, StepRule}
+use Rattle.run_rules.specs.Walks.{EndsAt, IsBlockedAfter, IsNextNumber}
+use Rattle.run_rules.proofs.DrivingFacts.{IsDrivable, IsDriven, IsDriven-capped, IsDriven-most, IsDriven-same, IsDriven-set, joined, joined-before, joined_keeps}
 use Rattle.run_rules.proofs.StallFacts.{EndsAt-driven}
 
 -- a number that is not below 0 is no less than the numbers up to it
@@ -103,18 +103,3 @@ EndsAt-envelope rule c e k line same on whole stalled =
           let driven = IsDriven-envelope rule c e k line on (IsEnvelopeTo-run rule c e k (omega arith) same (whole (omega arith))) in
           EndsAt-driven rule c e k driven (omega arith) (λ h. absurd (omega arith))
     ]
-
--- an older envelope is an older walk
-pub IsOlderWalk-envelope : (rule : StepRule) (c e : List ℕ) (cells top from to n : ℕ) → IsMonotone rule cells top → length c ≡ cells + 1 → length e ≡ length c → 1 ≤ n → IsOlderEnvelope rule top c e from to n → IsOlderWalk rule c e from to n
-IsOlderWalk-envelope rule c e cells top from to n mono points same some envelope =
-    let long = envelope.same_points in
-    let on = envelope.on_line in
-    let line = IsDrivable-braking_list rule envelope.older cells top mono (omega arith) envelope.small envelope.list in
-    let back : n - 1 + 1 ≡ n = omega arith in
-    record {
-      older = envelope.older;
-      same_points = envelope.same_points;
-      agrees = envelope.agrees;
-      ends = subst (λ k. EndsAt rule envelope.older e k) back (EndsAt-envelope rule envelope.older e (n - 1) line (omega arith) (omega arith)
-          (λ h. envelope.whole (omega arith)) (λ h. subst (λ k. IsStalled rule envelope.older k × IsEnvelopeTo rule envelope.older (take k e) k) (sym back) (envelope.stalled (omega arith))));
-    }

@@ -4,21 +4,21 @@ use Rattle.std.proofs.lemmas.Bool.{cases_lt}
 use Rattle.std.proofs.lemmas.Bool.Decides.{nat_tests}
 use Rattle.std.specs.Prelude.{if◌then◌else◌, nat_lt}
 use Rattle.run_rules.specs.Runs.{StepRule}
-use Rattle.run_rules.specs.Walks.{EndsAt, IsOlderWalk, known_at}
+use Rattle.run_rules.specs.Walks.{AgreeOutside, EndsAt, known_at}
 use Rattle.run_rules.proofs.DrivingFacts.{IsBlockedAfter-same, IsDriven, IsNextNumber-same}
 
 -- past the change, from a number on that is as before, all numbers are as before
-pub EndsAt-resumed : (rule : StepRule) (c old e : List ℕ) (from to n i : ℕ) → IsOlderWalk rule c old from to n → to < i → i < n → IsDriven rule c e (i + 1)
-    → ((j : ℕ) → i ≤ j → slice_index e j ≡ slice_index old j) → EndsAt rule c e n
-EndsAt-resumed rule c old e from to n i walk past known driven same = record {
-  some = walk.ends.some;
-  on_line = let long = walk.same_points in let on = walk.ends.on_line in omega arith;
+pub EndsAt-resumed : (rule : StepRule) (b c d e : List ℕ) (from to n i : ℕ) → AgreeOutside b c from to → EndsAt rule b d n → to < i → i < n → IsDriven rule c e (i + 1)
+    → ((j : ℕ) → i ≤ j → slice_index e j ≡ slice_index d j) → EndsAt rule c e n
+EndsAt-resumed rule b c d e from to n i agree ends past known driven same = record {
+  some = ends.some;
+  on_line = let long = agree.same_points in let on = ends.on_line in omega arith;
   first = driven.first;
   each = λ j l. elim (cases_lt j i) [
     | inl h ↦ driven.each j (omega arith)
-    | inr h ↦ IsNextNumber-same rule walk.older c old e j (slice_index old (j + 1)) (slice_index e (j + 1)) (walk.agrees (j + 1) (inr (omega arith))) (sym (same j h)) (sym (same (j + 1) (omega arith))) (walk.ends.each j l)
+    | inr h ↦ IsNextNumber-same rule b c d e j (slice_index d (j + 1)) (slice_index e (j + 1)) (agree.agrees (j + 1) (inr (omega arith))) (sym (same j h)) (sym (same (j + 1) (omega arith))) (ends.each j l)
   ];
-  blocked = λ j last h. IsBlockedAfter-same rule walk.older c old e j (walk.agrees (j + 1) (inr (omega arith))) (sym (same j (omega arith))) (walk.ends.blocked j last (let long = walk.same_points in omega arith));
+  blocked = λ j last h. IsBlockedAfter-same rule b c d e j (agree.agrees (j + 1) (inr (omega arith))) (sym (same j (omega arith))) (ends.blocked j last (let long = agree.same_points in omega arith));
 }
 
 pub known_at-some : (e : List ℕ) (n i w : ℕ) → known_at e n i ≡ Some w → (i < n) × (slice_index e i ≡ w)

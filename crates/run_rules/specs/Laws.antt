@@ -1,6 +1,7 @@
 -- What holds of every step rule and all lists of numbers, by the definitions of runs alone.
-use Rattle.std.specs.Prelude.{◌≡◌, ℕ, ◌-◌, ◌<◌, ◌≤◌, ◌⊎◌, max, List, length, replicate, slice_index}
+use Rattle.std.specs.Prelude.{◌≡◌, ℕ, ◌-◌, ◌<◌, ◌≤◌, max, List, length, replicate, slice_index}
 use Rattle.run_rules.specs.Runs.{IsBrakingList, IsMonotone, IsRun, IsStalled, Keeps, StepRule}
+use Rattle.run_rules.specs.Walks.{AgreeOutside}
 
 -- m has at each of the points the greater number of q and r
 pub record IsGreaterOf (q r m : List ℕ) (points : ℕ) : Type 0 where
@@ -26,20 +27,15 @@ abbrev pub StandingBrakes : Type 0
 StandingBrakes = (rule : StepRule) (x : List ℕ) (top : ℕ)
     → IsMonotone rule (length x - 1) top → Keeps rule x (replicate (length x) 0) 0
 
--- x and y are of one length, and differ at from..=to alone
-pub record DifferWithin (x y : List ℕ) (from to : ℕ) : Type 0 where
-  pub same_points : length x ≡ length y
-  pub outside : (i : ℕ) → (i < from) ⊎ (to < i) → slice_index x i ≡ slice_index y i
-
--- where the caps x and y differ at from..=to alone, their braking lists agree past `to`
+-- where the caps x and y agree outside from..=to, their braking lists agree past `to`
 abbrev pub BrakesAlikePast : Type 0
 BrakesAlikePast = (rule : StepRule) (x y c d : List ℕ) (from to i : ℕ)
-    → DifferWithin x y from to → IsBrakingList rule x c → IsBrakingList rule y d
+    → AgreeOutside x y from to → IsBrakingList rule x c → IsBrakingList rule y d
     → to < i → i < length x → slice_index c i ≡ slice_index d i
 
 -- and if they agree at a point below `from`, they agree at every lower point
 abbrev pub BrakesAlikeBelow : Type 0
 BrakesAlikeBelow = (rule : StepRule) (x y c d : List ℕ) (from to i j : ℕ)
-    → DifferWithin x y from to → IsBrakingList rule x c → IsBrakingList rule y d
+    → AgreeOutside x y from to → IsBrakingList rule x c → IsBrakingList rule y d
     → j < from → j < length x → slice_index c j ≡ slice_index d j
     → i ≤ j → slice_index c i ≡ slice_index d i

@@ -1,9 +1,21 @@
 -- What the walk back, which makes a braking list, and the walk on, which makes an envelope, say of one point at a time.
 -- A walk that begins again inside a line says with these words which of the older numbers stand.
-use Rattle.std.specs.Prelude.{◌≡◌, ℕ, ◌+◌, ◌<◌, ◌≤◌, pos, ◌≤ℤ◌, ◌⊎◌, List, length, slice_index, take, Option, Some, None, if◌then◌else◌, nat_lt}
+use Rattle.std.specs.Prelude.{◌≡◌, ℕ, ◌+◌, ◌<◌, ◌≤◌, pos, ◌≤ℤ◌, ◌⊎◌, List, length, slice_index, Option, Some, None, if◌then◌else◌, nat_lt}
 use Rattle.unit_rules.specs.declared.Reach.{Reach}
 use Rattle.unit_rules.specs.declared.Reach.TheVariants.{Whole, Stalled}
-use Rattle.run_rules.specs.Runs.{IsBrakingList, IsEnvelopeTo, IsGreatestRun, IsStalled, StepRule}
+use Rattle.run_rules.specs.Runs.{IsBrakingList, StepRule}
+
+-- two lists are as long, and agree outside from..=to
+pub record AgreeOutside (b c : List ℕ) (from to : ℕ) : Type 0 where
+  pub same_points : length b ≡ length c
+  pub agrees : (i : ℕ) → (i < from) ⊎ (to < i) → slice_index b i ≡ slice_index c i
+
+-- c has a number for each point of a line of so many cells, none is past `top`, and c, taken as caps, is its own
+-- braking list
+pub record IsOwnBrakingList (rule : StepRule) (cells top : ℕ) (c : List ℕ) : Type 0 where
+  pub points : length c ≡ cells + 1
+  pub small : (i : ℕ) → i < length c → slice_index c i ≤ top
+  pub list : IsBrakingList rule c c
 
 -- u is the greatest number up to the cap at point i from which the train can brake to what c has at the next point; at
 -- the last point the cap alone binds
@@ -36,25 +48,6 @@ pub record EndsAt (rule : StepRule) (c e : List ℕ) (n : ℕ) : Type 0 where
   pub first : slice_index e 0 ≡ slice_index c 0
   pub each : (i : ℕ) → i + 1 < n → IsNextNumber rule c e i (slice_index e (i + 1))
   pub blocked : (i : ℕ) → i + 1 ≡ n → n < length c → IsBlockedAfter rule c e i
-
--- e ended at n under older caps, which agree with c outside from..=to
-pub record IsOlderWalk (rule : StepRule) (c e : List ℕ) (from to n : ℕ) : Type 0 where
-  pub older : List ℕ
-  pub same_points : length older ≡ length c
-  pub agrees : (i : ℕ) → (i < from) ⊎ (to < i) → slice_index older i ≡ slice_index c i
-  pub ends : EndsAt rule older e n
-
--- the first n numbers of e are the envelope under older caps, which are their own braking list, are at most top and
--- agree with c outside from..=to
-pub record IsOlderEnvelope (rule : StepRule) (top : ℕ) (c e : List ℕ) (from to n : ℕ) : Type 0 where
-  pub older : List ℕ
-  pub same_points : length older ≡ length c
-  pub small : (i : ℕ) → i < length older → slice_index older i ≤ top
-  pub list : IsBrakingList rule older older
-  pub agrees : (i : ℕ) → (i < from) ⊎ (to < i) → slice_index older i ≡ slice_index c i
-  pub on_line : n ≤ length older
-  pub whole : n ≡ length older → IsGreatestRun rule older e
-  pub stalled : n < length older → IsStalled rule older n × IsEnvelopeTo rule older (take n e) n
 
 -- the number of e at point i, where its first n are known
 abbrev pub known_at : List ℕ → ℕ → ℕ → Option ℕ

@@ -1,4 +1,5 @@
 use Rattle.std.proofs.Common.{◌≡◌, ◌≢◌, ℕ, ◌+◌, ◌*◌, ◌<◌, ◌≤◌, length, slice_index}
+use Rattle.run_rules.specs.Walks.{AgreeOutside}
 use Rattle.run_rules.proofs.BrakingFacts.{IsGreatestFrom}
 use Rattle.limit_profile.specs.Levels.{IsLevel}
 use Rattle.limit_profile.specs.Profile.{caps}
@@ -11,8 +12,7 @@ invariant-loop-point g l = record {
   least : l.from ≤ l.point;
   level : IsLevel l.limits l.hints.level;
   right : IsGreatestFrom (step_rule_of l.rule) (caps l.limits) l.c l.point;
-  kept : (i : ℕ) → i < l.point → slice_index l.c i ≡ slice_index l.fn.c i;
-  kept_past : (i : ℕ) → l.to < i → slice_index l.c i ≡ slice_index l.fn.c i;
+  agree : AgreeOutside l.fn.c l.c l.point l.to;
   points : length l.c ≡ l.limits.length + 1;
   cost : l.steps + 33 * l.point ≤ l.fn.steps + 33 * (l.to + 1);
   start : l.point ≡ l.to + 1 → l.steps ≡ l.fn.steps;
@@ -24,8 +24,7 @@ abbrev pub invariant-loop-lowest : goal.invariant-loop-lowest
 invariant-loop-lowest g l = record {
   level : IsLevel l.limits l.hints.level;
   right : IsGreatestFrom (step_rule_of l.rule) (caps l.limits) l.c l.lowest;
-  kept : (i : ℕ) → i < l.lowest → slice_index l.c i ≡ slice_index l.fn.c i;
-  kept_past : (i : ℕ) → l.to < i → slice_index l.c i ≡ slice_index l.fn.c i;
+  agree : AgreeOutside l.fn.c l.c l.lowest l.to;
   changed : (i : ℕ) → l.lowest ≤ i → i < l.from → slice_index l.c i ≢ slice_index l.fn.c i;
   most : l.lowest ≤ l.from;
   points : length l.c ≡ l.limits.length + 1;

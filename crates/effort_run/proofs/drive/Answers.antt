@@ -20,7 +20,8 @@ returns-then-stands-clause-ends g c =
     let stood : known_at c.loop-i.e c.args.part.known (c.loop-i.i + 1) ≡ Some c.in-Some.number = search rules in
     let known = known_at-some c.loop-i.e c.args.part.known (c.loop-i.i + 1) c.in-Some.number stood in
     let driven = IsDriven-next (step_rule_of c.args.rule.now) c.args.c.now c.loop-i.e c.loop-i.i c.in-Some.number inv.driven c.in-Some.ensures.next known.1 in
-    EndsAt-resumed (step_rule_of c.args.rule.now) c.args.c.now c.args.e.now c.loop-i.e c.args.part.from c.args.part.to c.args.part.known (c.loop-i.i + 1) (c.requires.older (omega arith)) (omega (arith, c.if-i-to.true)) known.0 driven (λ j h. inv.rest j (omega arith))
+    let older = c.requires.older (omega arith) in
+    EndsAt-resumed (step_rule_of c.args.rule.now) older.0 c.args.c.now c.args.e.now c.loop-i.e c.args.part.from c.args.part.to c.args.part.known (c.loop-i.i + 1) older.1 older.2 (omega (arith, c.if-i-to.true)) known.0 driven (λ j h. inv.rest j (omega arith))
 
 pub returns-in_default-clause-ends : goal.returns-in_default-clause-ends
 returns-in_default-clause-ends g c = EndsAt-driven (step_rule_of c.args.rule.now) c.args.c.now c.loop-i.e c.loop-i.i c.loop-i.invariant.driven (omega arith) (λ h. c.in_default.ensures.none)

@@ -18,6 +18,9 @@ walk_back-requires-clause-before g c = λ i before. absurd (omega (arith, before
 pub returns-clause-list : goal.returns-clause-list
 returns-clause-list g c = rw (take-written c.in-Ok.list.items c.walk_back.new.c c.in-Ok.list.len (search rules) (search rules)) c.walk_back.ensures.list
 
+pub returns-clause-brakes : goal.returns-clause-brakes
+returns-clause-brakes g c = rw (take-written c.in-Ok.list.items c.walk_back.new.c c.in-Ok.list.len (search rules) (search rules)) c.walk_back.ensures.brakes
+
 pub returns-clause-steps : goal.returns-clause-steps
 returns-clause-steps g c =
     let cost = c.walk_back.ensures.end_cost (omega (arith, c.cells-cells.ensures.cells, c.requires.same_length)) in
