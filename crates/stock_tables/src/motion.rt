@@ -35,8 +35,8 @@ fn resistance_at(resistance: Resistance, kmh: u32) -> u64
 
 /// The mass that has to be moved, in kg, where rotating parts add so many per mille to the mass.
 pub(crate) fn moved_mass(mass: u32, rotating: u32) -> u32
-    requires heavy { 1000 ≤ mass }
-    requires light { mass ≤ 20000000 }
+    requires light { 1000 ≤ mass }
+    requires heavy { mass ≤ 20000000 }
     requires rotating { rotating ≤ 300 }
     ensures value { result ≡ moved_mass mass rotating }
     ensures least { 1000 ≤ result }
