@@ -4,6 +4,6 @@ use Rattle.record_rules.specs.declared.RecordFault.TheVariants as of_records
 use Rattle.line_tables.specs.declared.LineFault.{LineFault}
 use Rattle.line_tables.specs.declared.LineFault.TheVariants as fault
 
-abbrev pub fault_of : RecordFault → LineFault
-fault_of (of_records.Broken place rule) = fault.Bad place rule
-fault_of of_records.Memory = fault.Memory
+abbrev pub line_fault : RecordFault → LineFault
+line_fault (of_records.Broken place rule) = fault.Bad place rule
+line_fault of_records.Memory = fault.Memory

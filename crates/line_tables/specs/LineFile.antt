@@ -196,8 +196,8 @@ abbrev pub file_fault : List ℕ → Option (ℕ × ℕ)
 file_fault bytes = first_fault (λ before r. rule_after (draft_of before) r) [] (file_records bytes)
 
 -- the line, if there was a record of it
-abbrev pub table_of : DraftTable → Option LineTable
-table_of d = option_map (line_with d) d.line
+abbrev pub finished_line : DraftTable → Option LineTable
+finished_line d = option_map (line_with d) d.line
 
 -- by the first fault and the line
 abbrev pub reading_by : Option (ℕ × ℕ) → Option LineTable → Result LineTable LineFault
@@ -206,5 +206,5 @@ reading_by None (Some table) = Ok table
 reading_by None None = Err Missing
 
 -- what a file reads as: its first fault, or its line, which is missing where it has no `line` record
-abbrev pub reading_of : List ℕ → Result LineTable LineFault
-reading_of bytes = reading_by (file_fault bytes) (table_of (draft_of (file_records bytes)))
+abbrev pub read_as_line : List ℕ → Result LineTable LineFault
+read_as_line bytes = reading_by (file_fault bytes) (finished_line (draft_of (file_records bytes)))

@@ -4,7 +4,7 @@ ghost use Rattle.std.specs.Prelude.{◌≡◌, ◌≤◌, Some, []};
 ghost use Rattle.csv.specs.Records.{fields_of};
 ghost use Rattle.record_rules.specs.Faults.{TakesOne};
 ghost use Rattle.record_rules.specs.Records.{field};
-ghost use Rattle.line_tables.specs.LineFile.{draft_of, gradient_rule, kind_of, last_place, limit_rule, line_rule, point_rule, rule_after, slopes_end, table_of, with_record};
+ghost use Rattle.line_tables.specs.LineFile.{draft_of, finished_line, gradient_rule, kind_of, last_place, limit_rule, line_rule, point_rule, rule_after, slopes_end, with_record};
 
 mod rules;
 
@@ -12,7 +12,7 @@ use crate::kinds::{Kind, kind_of};
 use crate::points::Points;
 use crate::{Line, Name, Slope};
 use csv::ByteRecord;
-use record_rules::{Stop, Table, field};
+use record_rules::{Stop, TableReader, field};
 use std::alloc::Global;
 use std::marker::Model;
 use unit_rules::Zone;
@@ -161,7 +161,7 @@ impl Draft {
 
     /// The line, if there was a record of it.
     pub(crate) fn finish(self) -> Option<Line>
-        ensures { result ≡ table_of self }
+        ensures { result ≡ finished_line self }
     {
         let Draft {
             line,
@@ -176,7 +176,7 @@ impl Draft {
     }
 }
 
-impl Table for Draft {
+impl TableReader for Draft {
     ghost rule = { λ _ before r. rule_after (draft_of before) r };
 
     ghost says = { λ d before. d ≡ draft_of before };

@@ -4,8 +4,8 @@
 
 ghost use Rattle.std.specs.Prelude.{◌≡◌, Err};
 ghost use Rattle.unit_rules.specs.Memory.{Gives};
-ghost use Rattle.line_tables.specs.LineFile.{reading_of};
-ghost use Rattle.line_tables.specs.Faults.{fault_of};
+ghost use Rattle.line_tables.specs.LineFile.{read_as_line};
+ghost use Rattle.line_tables.specs.Faults.{line_fault};
 
 mod draft;
 mod kinds;
@@ -33,7 +33,7 @@ pub enum LineFault {
 }
 
 impl From<RecordFault> for LineFault {
-    ghost from_gives = { λ r e. e ≡ fault_of r };
+    ghost from_gives = { λ r e. e ≡ line_fault r };
 
     fn from(fault: RecordFault) -> LineFault {
         match fault {
@@ -45,7 +45,7 @@ impl From<RecordFault> for LineFault {
 
 /// Reads a line file: the line that it describes, or its first fault.
 pub fn read_line(alloc: Global, bytes: &[u8]) -> Result<Line, LineFault>
-    ensures { Gives (Err LineFault.Memory) (reading_of bytes.now) result }
+    ensures { Gives (Err LineFault.Memory) (read_as_line bytes.now) result }
 {
     let mut draft = Draft::new(alloc);
     read_records(alloc, bytes, &mut draft)?;

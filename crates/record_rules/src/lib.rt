@@ -1,7 +1,7 @@
 //! The records of a table file, as `csv` gives them, and the first of them that breaks a rule.
 //!
-//! A reader of table files is a [`Table`]: it says which rule a record breaks after the records
-//! before it, and takes records one after another. [`read_records`] does the rest for each of them.
+//! A reader of table files is a [`TableReader`]: it says which rule a record breaks after the
+//! records before it, and takes one after another. [`read_records`] does the rest for each of them.
 #![tactic(auto)]
 
 ghost use Rattle.std.specs.Prelude.{◌≡◌, ◌++◌, ◌∷◌, [], List, ℕ, Option};
@@ -29,7 +29,7 @@ pub enum RecordFault {
 }
 
 /// A table that takes the records of a file one after another.
-pub trait Table {
+pub trait TableReader {
     /// The least rule that a record breaks after the records before it, if it breaks one.
     ghost rule: { Self → List Record → Record → Option ℕ };
 
@@ -46,7 +46,11 @@ pub trait Table {
 
 /// Takes the records of a file in their order, up to the first that breaks a rule: commas, double
 /// quotes, no header, and any number of fields.
-pub fn read_records<T: Table>(alloc: Global, bytes: &[u8], table: &mut T) -> Result<(), RecordFault>
+pub fn read_records<T: TableReader>(
+    alloc: Global,
+    bytes: &[u8],
+    table: &mut T,
+) -> Result<(), RecordFault>
     requires { T.says table.old [] }
     ensures { ReadsAll (first_fault (T.rule table.old) [] (file_records bytes.now))
         (T.says table.new (file_records bytes.now)) result }

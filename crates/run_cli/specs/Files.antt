@@ -79,7 +79,7 @@ IsTable reading told name table = IfSome told (λ files. table_in reading (files
 
 -- a line file is file 1
 abbrev pub line_reading : List ℕ → Result LineTable Status
-line_reading bytes = with_status line_status (line.reading_of bytes)
+line_reading bytes = with_status line_status (line.read_as_line bytes)
 
 abbrev pub line_file : List ℕ → File
 line_file name = file_read 1 line_reading name

@@ -19,7 +19,7 @@ line_refused (Err line_fault.Missing) = inr (inl (_, (_, refl)))
 line_refused (Err (line_fault.Bad place rule)) = inr (inl (_, (_, refl)))
 
 pub line_refuses : (bytes : List ℕ) → MayRefuse 1 (line_reading bytes)
-line_refuses bytes = line_refused (line.reading_of bytes)
+line_refuses bytes = line_refused (line.read_as_line bytes)
 
 stock_refused : (r : Result StockTable StockFault) → MayRefuse 2 (with_status stock_status r)
 stock_refused (Ok table) = tt

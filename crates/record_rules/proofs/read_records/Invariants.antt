@@ -4,6 +4,6 @@ use Rattle.record_rules.proofs.read_records.Given as goal
 
 abbrev pub invariant-loop-done : goal.invariant-loop-done
 invariant-loop-done g l = record {
-  reads : Reads (g.T.Table.rule l.fn.table) (g.T.Table.says l.table) l.fn.bytes l.reader l.done;
-  rule : g.T.Table.rule l.table ≡ g.T.Table.rule l.fn.table;
+  reads : Reads (g.T.TableReader.rule l.fn.table) (g.T.TableReader.says l.table) l.fn.bytes l.reader l.done;
+  rule : g.T.TableReader.rule l.table ≡ g.T.TableReader.rule l.fn.table;
 }

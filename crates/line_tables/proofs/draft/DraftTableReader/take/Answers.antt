@@ -1,6 +1,6 @@
 use Rattle.csv.specs.Records.{fields_of}
 use Rattle.line_tables.proofs.FileFacts.{TakesOne-draft}
-use Rattle.line_tables.proofs.draft.DraftTable.take.Goals as goal
+use Rattle.line_tables.proofs.draft.DraftTableReader.take.Goals as goal
 
 pub returns-clause-taken : goal.returns-clause-taken
 returns-clause-taken c before said =
