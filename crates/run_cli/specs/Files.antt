@@ -86,7 +86,7 @@ line_file name = file_read 1 line_reading name
 
 -- a stock file is file 2
 abbrev pub stock_reading : List ℕ → Result StockTable Status
-stock_reading bytes = with_status stock_status (stock.reading_of bytes)
+stock_reading bytes = with_status stock_status (stock.read_as_stock bytes)
 
 abbrev pub stock_file : List ℕ → File
 stock_file name = file_read 2 stock_reading name

@@ -29,4 +29,4 @@ stock_refused (Err (stock_fault.Key key rule)) = inr (inl (_, (_, refl)))
 stock_refused (Err (stock_fault.Law table k)) = inr (inl (_, (_, refl)))
 
 pub stock_refuses : (bytes : List ℕ) → MayRefuse 2 (stock_reading bytes)
-stock_refuses bytes = stock_refused (stock.reading_of bytes)
+stock_refuses bytes = stock_refused (stock.read_as_stock bytes)

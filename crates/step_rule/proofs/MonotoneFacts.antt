@@ -7,21 +7,21 @@ use Rattle.run_rules.specs.Runs.{IsMonotone}
 use Rattle.run_rules.specs.Speeds.{squared}
 use Rattle.run_rules.specs.Steps.{fall_from, low_from, up_from}
 use Rattle.run_rules.proofs.GridFacts.{value_at-zero}
-use Rattle.table_laws.specs.Laws.{KeepsLaw, MovesWithin}
+use Rattle.table_laws.specs.Laws.{KeepsLaw, moves_within}
 use Rattle.table_laws.specs.declared.Law.TheVariants.{Climb, Drop}
 use Rattle.table_laws.proofs.LawFacts.{value_at-keeps}
 use Rattle.step_rule.specs.Motion.{IsMotion, Motion, cells_of, most_of, step_rule_of}
 
 -- from one squared speed to the next
 up_from-next : (push : List ℤ) (moved : ℕ) (pull : ℤ) (u : ℕ) → 1 ≤ moved → KeepsLaw (Drop moved) push → u + 1 ≤ squared (top_of push) → up_from push moved pull u ≤ℤ up_from push moved pull (u + 1)
-unfolding up_from MovesWithin
+unfolding up_from moves_within
 up_from-next push moved pull u s l h =
     let drops = value_at-keeps (Drop moved) push l u (omega arith) in
     let f = floor_div-at_most (value_at push u -ℤ pull) (value_at push (u + 1) -ℤ pull) moved 1 s (omega (arith, ints)) in
     omega (arith, ints)
 
 fall_from-next : (brake : List ℤ) (u : ℕ) → KeepsLaw Climb brake → u + 1 ≤ squared (top_of brake) → fall_from brake u ≤ℤ fall_from brake (u + 1)
-unfolding fall_from MovesWithin
+unfolding fall_from moves_within
 fall_from-next brake u l h = let climbs = value_at-keeps Climb brake l u (omega arith) in omega (arith, ints)
 
 -- what doesn't fall from one number to the next doesn't fall from one to any further one

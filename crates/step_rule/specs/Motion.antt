@@ -4,13 +4,13 @@ use Rattle.run_rules.specs.Grids.{row, top_of}
 use Rattle.run_rules.specs.Runs.{StepRule}
 use Rattle.run_rules.specs.Speeds.{squared}
 use Rattle.run_rules.specs.Steps.{IsPull, rule_of}
-use Rattle.table_laws.specs.Laws.{IsLawful, Table}
+use Rattle.table_laws.specs.Laws.{BandTable, IsLawful}
 use Rattle.table_laws.specs.declared.Law.TheVariants.{Climb, Drop}
 
 -- how a train moves: its push and its brakes by speed, its moved mass in kg, and the pull of the gradient at each cell
 pub record Motion : Type 0 where
-  pub push : Table
-  pub brake : Table
+  pub push : BandTable
+  pub brake : BandTable
   pub moved : ℕ
   pub pulls : List ℤ
 

@@ -8,7 +8,7 @@ use Rattle.std.proofs.lemmas.Bool.Decides.{nat_tests}
 use Rattle.std.proofs.lemmas.List.{drop_more, get_or-map, length-map}
 use Rattle.stock_tables.specs.declared.curve.Row.{Row}
 use Rattle.stock_tables.specs.Walk.{IsPassed}
-use Rattle.stock_tables.specs.Curve.{IsCurve, IsCurveTo, IsRow, are_in_order, is_rising, speeds, value_at, value_on}
+use Rattle.stock_tables.specs.Curve.{IsCurve, IsCurveTo, IsRow, are_in_order, is_rising, speeds, curve_value, value_on}
 
 nat_lt-true : (x y : ℕ) → nat_lt x y ≡ true → x < y
 nat_lt-true x y e = grind (arith, nat_tests, e)
@@ -92,13 +92,13 @@ IsCurveTo-ordered top rows e ranges =
     }
 
 -- a row that lies behind a speed says nothing there
-pub find-behind : (a b : Row) (rows : List Row) (k : ℕ) → b.kmh < k → value_at (a ∷ b ∷ rows) k ≡ value_at (b ∷ rows) k
+pub find-behind : (a b : Row) (rows : List Row) (k : ℕ) → b.kmh < k → curve_value (a ∷ b ∷ rows) k ≡ curve_value (b ∷ rows) k
 find-behind a b rows k h =
     let far : nat_le k b.kmh ≡ false = grind (arith, nat_tests, h) in
     rw (far, and-false (nat_le a.kmh k)) refl
 
 -- between the first two rows
-pub find-here : (a b : Row) (rows : List Row) (k : ℕ) → a.kmh ≤ k → k ≤ b.kmh → value_at (a ∷ b ∷ rows) k ≡ value_on (a, b) k
+pub find-here : (a b : Row) (rows : List Row) (k : ℕ) → a.kmh ≤ k → k ≤ b.kmh → curve_value (a ∷ b ∷ rows) k ≡ value_on (a, b) k
 find-here a b rows k h g =
     let past : nat_le a.kmh k ≡ true = grind (arith, nat_tests, h) in
     let near : nat_le k b.kmh ≡ true = grind (arith, nat_tests, g) in
@@ -114,8 +114,8 @@ IsPassed-next rows place kmh p more behind = record {
   passed = rw (speeds-at rows (place + 1) (omega arith)) (omega arith);
   same = λ k h.
       let rest = find-behind (get_or rows place no_row) (get_or rows (place + 1) no_row) (drop (place + 1 + 1) rows) k (omega arith) in
-      let here = ap (λ (q : List Row). value_at q k) (drop-two rows place (omega arith)) in
-      let next = ap (λ (q : List Row). value_at q k) (drop_more rows (place + 1) no_row (omega arith)) in
+      let here = ap (λ (q : List Row). curve_value q k) (drop-two rows place (omega arith)) in
+      let next = ap (λ (q : List Row). curve_value q k) (drop_more rows (place + 1) no_row (omega arith)) in
       next ∙ sym rest ∙ sym here ∙ p.same k h;
 }
 
@@ -123,14 +123,14 @@ pub IsPassed-later : (rows : List Row) (place kmh later : ℕ) → IsPassed rows
 IsPassed-later rows place kmh later p h = record { on_curve = p.on_curve; passed = omega (arith, p.passed); same = λ k g. p.same k (omega arith) }
 
 -- the value at a speed before the row that follows the place
-pub value_at-passed : (rows : List Row) (place kmh : ℕ) → IsPassed rows place kmh → kmh ≤ get_or (speeds rows) (place + 1) 0
-    → value_at rows kmh ≡ value_on (get_or rows place no_row, get_or rows (place + 1) no_row) kmh
-value_at-passed rows place kmh p near =
+pub curve_value-passed : (rows : List Row) (place kmh : ℕ) → IsPassed rows place kmh → kmh ≤ get_or (speeds rows) (place + 1) 0
+    → curve_value rows kmh ≡ value_on (get_or rows place no_row, get_or rows (place + 1) no_row) kmh
+curve_value-passed rows place kmh p near =
     let a = get_or rows place no_row in
     let b = get_or rows (place + 1) no_row in
     let passed = rw (speeds-at rows place (omega (arith, p.on_curve))) at p.passed in
     let near' = rw (speeds-at rows (place + 1) p.on_curve) at near in
-    sym (p.same kmh (omega arith)) ∙ ap (λ (q : List Row). value_at q kmh) (drop-two rows place p.on_curve) ∙ find-here a b (drop (place + 1 + 1) rows) kmh passed near'
+    sym (p.same kmh (omega arith)) ∙ ap (λ (q : List Row). curve_value q kmh) (drop-two rows place p.on_curve) ∙ find-here a b (drop (place + 1 + 1) rows) kmh passed near'
 
 -- the speed of the last row
 pub last-slow : (rows : List Row) → IsCurve rows → get_or (speeds rows) (length rows - 1) 0 ≤ 500

@@ -5,16 +5,16 @@ use Rattle.std.proofs.lemmas.Int.{ints}
 use Rattle.std.proofs.lemmas.List.FromFn.{get_or-map-range_with_len, length-map-range_with_len}
 use Rattle.unit_rules.proofs.FloorFacts.{floor_div-most, floor_div-mono}
 use Rattle.run_rules.specs.Grids.{row, top_of}
-use Rattle.table_laws.specs.Laws.{IsLawful, IsTable, Table}
+use Rattle.table_laws.specs.Laws.{BandTable, IsLawful, IsTable}
 use Rattle.table_laws.specs.declared.Law.{Law}
 use Rattle.stock_tables.specs.declared.StockFault.{StockFault}
 use Rattle.stock_tables.specs.declared.curve.Row.{Row}
 use Rattle.stock_tables.specs.declared.motion.Resistance.{Resistance}
-use Rattle.stock_tables.specs.Curve.{IsCurveTo, value_at, values_to}
+use Rattle.stock_tables.specs.Curve.{IsCurveTo, curve_value, values_to}
 use Rattle.stock_tables.specs.Motion.{IsResistance, brake_loss, brake_rows, net_push, push_rows, resistance_at}
 use Rattle.stock_tables.specs.Stock.{IsStrong, IsTableTo}
-use Rattle.stock_tables.specs.StockFile.{table_of}
-use Rattle.stock_tables.proofs.LawFacts.{table_of-ok}
+use Rattle.stock_tables.specs.StockFile.{lawful_table}
+use Rattle.stock_tables.proofs.LawFacts.{lawful_table-ok}
 use Rattle.stock_tables.proofs.ValueFacts.{IsValue, IsValue-at, map-values, top-slow}
 
 resistance_at-most : (r : Resistance) (kmh : ℕ) → IsResistance r → kmh ≤ 500 → resistance_at r kmh ≤ 256000000000
@@ -59,17 +59,17 @@ module _ (f : ℕ → ℤ) (top : ℕ) where
 pub IsTable-push : (top : ℕ) (effort : List Row) (r : Resistance) → 1 ≤ top → IsCurveTo top effort → IsResistance r → IsTable (push_rows top effort r)
 IsTable-push top effort r some c i =
     let few = top-slow top effort c in
-    let value : (k : ℕ) → k ≤ top → IsValue 0 (value_at effort k) = λ k h. IsValue-at 0 top effort k c (λ j d b. omega arith) h in
+    let value : (k : ℕ) → k ≤ top → IsValue 0 (curve_value effort k) = λ k h. IsValue-at 0 top effort k c (λ j d b. omega arith) h in
     let against : (k : ℕ) → k ≤ top → resistance_at r k ≤ 256000000000 = λ k h. resistance_at-most r k i (omega arith) in
-    IsTable-map (λ k. net_push (value_at effort k) (resistance_at r k)) top some few (λ k h. net_push-most (value_at effort k) (resistance_at r k) (value k h) (against k h))
-    (λ k h. net_push-least (value_at effort k) (resistance_at r k) (value k h) (against k h))
+    IsTable-map (λ k. net_push (curve_value effort k) (resistance_at r k)) top some few (λ k h. net_push-most (curve_value effort k) (resistance_at r k) (value k h) (against k h))
+    (λ k h. net_push-least (curve_value effort k) (resistance_at r k) (value k h) (against k h))
 
 pub IsTable-brake : (top : ℕ) (rates : List Row) → 1 ≤ top → IsCurveTo top rates → All (λ r. 50 ≤ r.value) rates → IsTable (brake_rows top rates)
 IsTable-brake top rates some c strong =
     let few = top-slow top rates c in
-    let value : (k : ℕ) → k ≤ top → IsValue 50 (value_at rates k) = λ k h. IsValue-at 50 top rates k c strong h in
-    IsTable-map (λ k. brake_loss (value_at rates k)) top some few (λ k h. brake_loss-most (value_at rates k) (value k h))
-    (λ k h. let l = brake_loss-least (value_at rates k) (value k h) in omega (arith, ints))
+    let value : (k : ℕ) → k ≤ top → IsValue 50 (curve_value rates k) = λ k h. IsValue-at 50 top rates k c strong h in
+    IsTable-map (λ k. brake_loss (curve_value rates k)) top some few (λ k h. brake_loss-most (curve_value rates k) (value k h))
+    (λ k h. let l = brake_loss-least (curve_value rates k) (value k h) in omega (arith, ints))
 
 -- what is made of the computed values is made of the curve
 pub push_rows-made : (top : ℕ) (effort : List Row) (r : Resistance) (efforts made : List ℤ) → efforts ≡ values_to top effort
@@ -81,23 +81,23 @@ pub brake_rows-made : (top : ℕ) (rates : List Row) (values made : List ℤ) �
 brake_rows-made top rates values made e m = m ∙ map-values (λ k z. brake_loss z) top rates values e
 
 -- a table of such rows that was read is lawful up to the top speed
-IsTableTo-read : (number top : ℕ) (law : Law) (f : ℕ → ℤ) (result : Result Table StockFault) → result ≡ table_of number law (map f (range_with_len 0 (top + 1))) → IfOk result IsLawful
+IsTableTo-read : (number top : ℕ) (law : Law) (f : ℕ → ℤ) (result : Result BandTable StockFault) → result ≡ lawful_table number law (map f (range_with_len 0 (top + 1))) → IfOk result IsLawful
     → IfOk result (IsTableTo top law)
 IsTableTo-read number top law f (Err fault) e kept = tt
 IsTableTo-read number top law f (Ok table) e kept =
-    let same = table_of-ok number law (map f (range_with_len 0 (top + 1))) (Ok table) table e refl in
+    let same = lawful_table-ok number law (map f (range_with_len 0 (top + 1))) (Ok table) table e refl in
     record { ends = rw same (top_of-map f top); under = rw same refl; kept = kept }
 
-pub IsTableTo-push : (top : ℕ) (law : Law) (effort : List Row) (r : Resistance) (result : Result Table StockFault) → result ≡ table_of 5 law (push_rows top effort r) → IfOk result IsLawful
+pub IsTableTo-push : (top : ℕ) (law : Law) (effort : List Row) (r : Resistance) (result : Result BandTable StockFault) → result ≡ lawful_table 5 law (push_rows top effort r) → IfOk result IsLawful
     → IfOk result (IsTableTo top law)
-IsTableTo-push top law effort r = IsTableTo-read 5 top law (λ k. net_push (value_at effort k) (resistance_at r k))
+IsTableTo-push top law effort r = IsTableTo-read 5 top law (λ k. net_push (curve_value effort k) (resistance_at r k))
 
-pub IsTableTo-brake : (top : ℕ) (law : Law) (rates : List Row) (result : Result Table StockFault) → result ≡ table_of 7 law (brake_rows top rates) → IfOk result IsLawful → IfOk result (IsTableTo top law)
-IsTableTo-brake top law rates = IsTableTo-read 7 top law (λ k. brake_loss (value_at rates k))
+pub IsTableTo-brake : (top : ℕ) (law : Law) (rates : List Row) (result : Result BandTable StockFault) → result ≡ lawful_table 7 law (brake_rows top rates) → IfOk result IsLawful → IfOk result (IsTableTo top law)
+IsTableTo-brake top law rates = IsTableTo-read 7 top law (λ k. brake_loss (curve_value rates k))
 
-pub IsStrong-brake : (top : ℕ) (law : Law) (rates : List Row) (result : Result Table StockFault) → result ≡ table_of 7 law (brake_rows top rates) → IsCurveTo top rates
+pub IsStrong-brake : (top : ℕ) (law : Law) (rates : List Row) (result : Result BandTable StockFault) → result ≡ lawful_table 7 law (brake_rows top rates) → IsCurveTo top rates
     → All (λ r. 50 ≤ r.value) rates → IfOk result (IsStrong top)
 IsStrong-brake top law rates (Err fault) e c strong = tt
 IsStrong-brake top law rates (Ok table) e c strong = λ k h.
-    let same = table_of-ok 7 law (brake_rows top rates) (Ok table) table e refl in
-    rw (same, at_speed (λ j. brake_loss (value_at rates j)) top k h) (brake_loss-least (value_at rates k) (IsValue-at 50 top rates k c strong h))
+    let same = lawful_table-ok 7 law (brake_rows top rates) (Ok table) table e refl in
+    rw (same, at_speed (λ j. brake_loss (curve_value rates j)) top k h) (brake_loss-least (curve_value rates k) (IsValue-at 50 top rates k c strong h))

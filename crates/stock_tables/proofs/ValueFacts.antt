@@ -7,7 +7,7 @@ use Rattle.std.proofs.lemmas.List.FromFn.{fill_by_all, get_or-map-range_with_len
 use Rattle.run_rules.specs.Grids.{row}
 use Rattle.run_rules.proofs.GridFacts.{value_between-most, value_between-least}
 use Rattle.stock_tables.specs.declared.curve.Row.{Row}
-use Rattle.stock_tables.specs.Curve.{IsCurveTo, IsRow, speeds, value_at, value_on, values_to}
+use Rattle.stock_tables.specs.Curve.{IsCurveTo, IsRow, speeds, curve_value, value_on, values_to}
 use Rattle.stock_tables.proofs.CurveFacts.{RiseTo, find-behind, find-here, last-slow}
 
 -- a value that is no less than the rows' and in the range of every table
@@ -25,7 +25,7 @@ IsValue-on low a b kmh la lb ra rb from to rises =
     }
 
 IsValue-from : (low : ℕ) (a b : Row) (rows : List Row) (kmh : ℕ) → All IsRow (a ∷ b ∷ rows) → All (λ r. low ≤ r.value) (a ∷ b ∷ rows) → RiseTo (length (a ∷ b ∷ rows)) (speeds (a ∷ b ∷ rows))
-    → a.kmh ≤ kmh → kmh ≤ get_or (speeds (a ∷ b ∷ rows)) (suc (length rows)) 0 → IsValue low (value_at (a ∷ b ∷ rows) kmh)
+    → a.kmh ≤ kmh → kmh ≤ get_or (speeds (a ∷ b ∷ rows)) (suc (length rows)) 0 → IsValue low (curve_value (a ∷ b ∷ rows) kmh)
 IsValue-from low a b [] kmh ranges least rises from to =
     rw (find-here a b [] kmh from to)
     (IsValue-on low a b kmh (least 0 a (omega arith)) (least 1 a (omega arith)) (ranges 0 a (omega arith)) (ranges 1 a (omega arith)) from to (rises 0 (omega arith)))
@@ -39,7 +39,7 @@ IsValue-from low a b (c ∷ rows) kmh ranges least rises from to =
           (IsValue-on low a b kmh (least 0 a (omega arith)) (least 1 a (omega arith)) (ranges 0 a (omega arith)) (ranges 1 a (omega arith)) from near (rises 0 (omega arith)))
     ]
 
-pub IsValue-at : (low top : ℕ) (rows : List Row) (kmh : ℕ) → IsCurveTo top rows → All (λ r. low ≤ r.value) rows → kmh ≤ top → IsValue low (value_at rows kmh)
+pub IsValue-at : (low top : ℕ) (rows : List Row) (kmh : ℕ) → IsCurveTo top rows → All (λ r. low ≤ r.value) rows → kmh ≤ top → IsValue low (curve_value rows kmh)
 IsValue-at low top [] kmh c least h = let some = c.curve.some in absurd (omega arith)
 IsValue-at low top (a ∷ []) kmh c least h = let some = c.curve.some in absurd (omega arith)
 IsValue-at low top (a ∷ b ∷ rows) kmh c least h =
@@ -49,10 +49,10 @@ IsValue-at low top (a ∷ b ∷ rows) kmh c least h =
     IsValue-from low a b rows kmh c.curve.ranges least (λ i l. rw add-one at (c.curve.rises i (omega arith))) (omega arith) (omega arith)
 
 pub length-values_to : (top : ℕ) (rows : List Row) → length (values_to top rows) ≡ top + 1
-length-values_to top rows = length-map-range_with_len (value_at rows) 0 (top + 1)
+length-values_to top rows = length-map-range_with_len (curve_value rows) 0 (top + 1)
 
-row-values_to : (top : ℕ) (rows : List Row) (kmh : ℕ) → kmh < top + 1 → row (values_to top rows) kmh ≡ value_at rows kmh
-row-values_to top rows kmh h = get_or-map-range_with_len (value_at rows) 0 (top + 1) kmh kmh (pos 0) h (omega arith)
+row-values_to : (top : ℕ) (rows : List Row) (kmh : ℕ) → kmh < top + 1 → row (values_to top rows) kmh ≡ curve_value rows kmh
+row-values_to top rows kmh h = get_or-map-range_with_len (curve_value rows) 0 (top + 1) kmh kmh (pos 0) h (omega arith)
 
 -- the values that were computed are in range
 pub IsValue-row : (low top : ℕ) (rows : List Row) (values : List ℤ) → values ≡ values_to top rows → IsCurveTo top rows → All (λ r. low ≤ r.value) rows
@@ -69,10 +69,10 @@ top-slow top rows c = let l = last-slow rows c.curve in let e = c.ends in omega 
 
 -- what is made of each of the computed values is made of each value of the curve
 pub map-values : (f : ℕ → ℤ → ℤ) (top : ℕ) (rows : List Row) (values : List ℤ) → values ≡ values_to top rows
-    → map (λ k. f k (row values k)) (range_with_len 0 (length values)) ≡ map (λ k. f k (value_at rows k)) (range_with_len 0 (top + 1))
+    → map (λ k. f k (row values k)) (range_with_len 0 (length values)) ≡ map (λ k. f k (curve_value rows k)) (range_with_len 0 (top + 1))
 map-values f top rows values e =
     let long = length-values top rows values e in
     rw long
-    (fill_by_all (λ k. f k (value_at rows k)) (map (λ k. f k (row values k)) (range_with_len 0 (top + 1))) (top + 1) (pos 0)
+    (fill_by_all (λ k. f k (curve_value rows k)) (map (λ k. f k (row values k)) (range_with_len 0 (top + 1))) (top + 1) (pos 0)
     (length-map-range_with_len (λ k. f k (row values k)) 0 (top + 1))
     (λ k h. get_or-map-range_with_len (λ j. f j (row values j)) 0 (top + 1) k k (pos 0) h (omega arith) ∙ ap (λ (z : ℤ). f k z) (ap (λ (q : List ℤ). row q k) e ∙ row-values_to top rows k h)))

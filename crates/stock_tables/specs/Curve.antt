@@ -37,12 +37,12 @@ abbrev pub lies_between : ℕ → Row × Row → Bool
 lies_between kmh pair = nat_le pair.0.kmh kmh && nat_le kmh pair.1.kmh
 
 -- the value at a speed: on the way between the first two neighbours between which the speed lies
-abbrev pub value_at : List Row → ℕ → ℤ
-value_at rows kmh = option_map_or (λ pair. value_on pair kmh) (find (lies_between kmh) (neighbours rows)) (pos 0)
+abbrev pub curve_value : List Row → ℕ → ℤ
+curve_value rows kmh = option_map_or (λ pair. value_on pair kmh) (find (lies_between kmh) (neighbours rows)) (pos 0)
 
 -- the values at 0, 1, .. up to the top speed
 abbrev pub values_to : ℕ → List Row → List ℤ
-values_to top rows = map (value_at rows) (range_with_len 0 (top + 1))
+values_to top rows = map (curve_value rows) (range_with_len 0 (top + 1))
 
 -- a row within the ranges of every table
 pub record IsRow (r : Row) : Type 0 where

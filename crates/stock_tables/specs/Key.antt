@@ -32,8 +32,8 @@ abbrev pub pair_of : Data → Option (ℤ × ℤ)
 pair_of d = option_and_then pair_in (elements d)
 
 -- the integer from low to high that a key holds
-abbrev pub number_in : ℕ → ℕ → Option Data → Result ℕ KeyFault
-number_in low high key = do
+abbrev pub key_number : ℕ → ℕ → Option Data → Result ℕ KeyFault
+key_number low high key = do
   value ← ok_or key (Rule 1)
   number ← ok_or (as_integer value) (Rule 2)
   ok_or (within low high number) (Rule 3)
@@ -43,8 +43,8 @@ abbrev pub row_in : ℕ → ℕ → ℤ × ℤ → Option Row
 row_in low high pair = option_map (λ r. record { kmh = r.0; value = r.1 }) (option_zip (within 0 500 pair.0) (within low high pair.1))
 
 -- the rows that a key holds, whose values are from low to high and whose last speed is the top speed
-abbrev pub rows_in : ℕ → ℕ → ℕ → Option Data → Result (List Row) KeyFault
-rows_in low high top key = do
+abbrev pub key_rows : ℕ → ℕ → ℕ → Option Data → Result (List Row) KeyFault
+key_rows low high top key = do
   value ← ok_or key (Rule 1)
   pairs ← ok_or (option_and_then (each pair_of) (elements value)) (Rule 2)
   rows ← ok_or (each (row_in low high) pairs) (Rule 3)
@@ -62,8 +62,8 @@ resistance_from three =
     (option_zip (within 0 1000000 three.0) (option_zip (within 0 10000000 three.1.0) (within 0 1000000 three.1.1)))
 
 -- the resistance that a key holds
-abbrev pub resistance_in : Option Data → Result Resistance KeyFault
-resistance_in key = do
+abbrev pub key_resistance : Option Data → Result Resistance KeyFault
+key_resistance key = do
   value ← ok_or key (Rule 1)
   three ← ok_or (option_and_then three_in (elements value)) (Rule 2)
   ok_or (resistance_from three) (Rule 3)

@@ -6,7 +6,7 @@ use Rattle.std.specs.List.{range_with_len}
 use Rattle.unit_rules.specs.Quotients.{floor_div}
 use Rattle.stock_tables.specs.declared.curve.Row.{Row}
 use Rattle.stock_tables.specs.declared.motion.Resistance.{Resistance}
-use Rattle.stock_tables.specs.Curve.{value_at}
+use Rattle.stock_tables.specs.Curve.{curve_value}
 
 -- the mass that has to be moved, in kg: rotating parts, in per mille, count as more mass; rounded up
 abbrev pub moved_mass : ℕ → ℕ → ℕ
@@ -26,11 +26,11 @@ brake_loss rate = floor_div (pos 2592 *ℤ rate) 10
 
 -- the push at 0, 1, .. up to the top speed
 abbrev pub push_rows : ℕ → List Row → Resistance → List ℤ
-push_rows top effort resistance = map (λ kmh. net_push (value_at effort kmh) (resistance_at resistance kmh)) (range_with_len 0 (top + 1))
+push_rows top effort resistance = map (λ kmh. net_push (curve_value effort kmh) (resistance_at resistance kmh)) (range_with_len 0 (top + 1))
 
 -- what braking takes at 0, 1, .. up to the top speed
 abbrev pub brake_rows : ℕ → List Row → List ℤ
-brake_rows top rates = map (λ kmh. brake_loss (value_at rates kmh)) (range_with_len 0 (top + 1))
+brake_rows top rates = map (λ kmh. brake_loss (curve_value rates kmh)) (range_with_len 0 (top + 1))
 
 -- a resistance in its ranges
 pub record IsResistance (r : Resistance) : Type 0 where

@@ -1,7 +1,7 @@
 -- What contracts see of a stock.
 use Rattle.std.specs.Prelude.{ℕ, ◌≤◌, ◌≡◌, pos, ◌≤ℤ◌}
 use Rattle.run_rules.specs.Grids.{row, top_of}
-use Rattle.table_laws.specs.Laws.{IsLawful, Table}
+use Rattle.table_laws.specs.Laws.{BandTable, IsLawful}
 use Rattle.table_laws.specs.declared.Law.{Law}
 use Rattle.table_laws.specs.declared.Law.TheVariants.{Drop, Climb}
 
@@ -11,17 +11,17 @@ pub record StockTable : Type 0 where
   pub moved_mass : ℕ
   pub length : ℕ
   pub top : ℕ
-  pub push : Table
-  pub brake : Table
+  pub push : BandTable
+  pub brake : BandTable
 
 -- a lawful table up to a top speed
-pub record IsTableTo (top : ℕ) (law : Law) (table : Table) : Type 0 where
+pub record IsTableTo (top : ℕ) (law : Law) (table : BandTable) : Type 0 where
   pub ends : top_of table.rows ≡ top
   pub under : table.law ≡ law
   pub kept : IsLawful table
 
 -- the braking takes 12960 or more at each speed
-abbrev pub IsStrong : ℕ → Table → Type 0
+abbrev pub IsStrong : ℕ → BandTable → Type 0
 IsStrong top brake = (k : ℕ) → k ≤ top → pos 12960 ≤ℤ row brake.rows k
 
 -- a stock in its ranges, with its tables up to its top speed: the push may drop by the moved mass, and the braking climb by 1

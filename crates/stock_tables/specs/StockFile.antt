@@ -6,7 +6,7 @@ use Rattle.std.specs.Str.{is_utf8}
 use Rattle.toml.specs.Data.{Members, get_member}
 use Rattle.toml.specs.Parse.{parse_document}
 use Rattle.run_rules.specs.Grids.{top_of}
-use Rattle.table_laws.specs.Laws.{Table, keeps_law_at}
+use Rattle.table_laws.specs.Laws.{BandTable, keeps_law_at}
 use Rattle.table_laws.specs.declared.Law.{Law}
 use Rattle.table_laws.specs.declared.Law.TheVariants.{Drop, Climb}
 use Rattle.stock_tables.specs.declared.StockFault.{StockFault}
@@ -14,7 +14,7 @@ use Rattle.stock_tables.specs.declared.StockFault.TheVariants as fault
 use Rattle.stock_tables.specs.declared.document.KeyFault.{KeyFault}
 use Rattle.stock_tables.specs.declared.document.KeyFault.TheVariants as key_fault
 use Rattle.stock_tables.specs.declared.keys.Keys.{Keys}
-use Rattle.stock_tables.specs.Key.{number_in, resistance_in, rows_in}
+use Rattle.stock_tables.specs.Key.{key_number, key_resistance, key_rows}
 use Rattle.stock_tables.specs.Motion.{brake_rows, moved_mass, push_rows}
 use Rattle.stock_tables.specs.Steps.{◌>>=◌}
 use Rattle.stock_tables.specs.Stock.{StockTable}
@@ -32,30 +32,30 @@ at_key number (Err key_fault.Memory) = Err fault.Memory
 -- the values of the keys, or the first one that breaks a rule
 abbrev pub keys_of : Members → Result Keys StockFault
 keys_of document = do
-  mass ← at_key 1 (number_in 1000 20000000 (get_member (codes "mass") document))
-  rotating ← at_key 2 (number_in 0 300 (get_member (codes "rotating") document))
-  length ← at_key 3 (number_in 1 5000 (get_member (codes "length") document))
-  top ← at_key 4 (number_in 1 500 (get_member (codes "top") document))
-  effort ← at_key 5 (rows_in 0 3000000 top (get_member (codes "effort") document))
-  resistance ← at_key 6 (resistance_in (get_member (codes "resistance") document))
-  brake ← at_key 7 (rows_in 50 3000 top (get_member (codes "brake") document))
+  mass ← at_key 1 (key_number 1000 20000000 (get_member (codes "mass") document))
+  rotating ← at_key 2 (key_number 0 300 (get_member (codes "rotating") document))
+  length ← at_key 3 (key_number 1 5000 (get_member (codes "length") document))
+  top ← at_key 4 (key_number 1 500 (get_member (codes "top") document))
+  effort ← at_key 5 (key_rows 0 3000000 top (get_member (codes "effort") document))
+  resistance ← at_key 6 (key_resistance (get_member (codes "resistance") document))
+  brake ← at_key 7 (key_rows 50 3000 top (get_member (codes "brake") document))
   Ok (record { mass = mass; rotating = rotating; length = length; top = top; effort = effort; resistance = resistance; brake = brake })
 
 -- the table of the key with that number, or the least speed from which its values break the law
-abbrev pub table_by : ℕ → Table → Option ℕ → Result Table StockFault
+abbrev pub table_by : ℕ → BandTable → Option ℕ → Result BandTable StockFault
 table_by number table None = Ok table
 table_by number table (Some k) = Err (fault.Law number k)
 
-abbrev pub table_of : ℕ → Law → List ℤ → Result Table StockFault
-table_of number law rows =
+abbrev pub lawful_table : ℕ → Law → List ℤ → Result BandTable StockFault
+lawful_table number law rows =
     table_by number (record { rows = rows; law = law })
     (find (λ k. not (keeps_law_at law rows k)) (range_with_len 0 (top_of rows)))
 
 -- the stock that the values of the keys describe
 abbrev pub stock_of : Keys → Result StockTable StockFault
 stock_of keys = do
-  push ← table_of 5 (Drop (moved_mass keys.mass keys.rotating)) (push_rows keys.top keys.effort keys.resistance)
-  brake ← table_of 7 Climb (brake_rows keys.top keys.brake)
+  push ← lawful_table 5 (Drop (moved_mass keys.mass keys.rotating)) (push_rows keys.top keys.effort keys.resistance)
+  brake ← lawful_table 7 Climb (brake_rows keys.top keys.brake)
   Ok (record {
     mass = keys.mass;
     moved_mass = moved_mass keys.mass keys.rotating;
@@ -66,8 +66,8 @@ stock_of keys = do
   })
 
 -- what a file reads as: its stock, or its first fault
-abbrev pub reading_of : List ℕ → Result StockTable StockFault
-reading_of bytes = do
+abbrev pub read_as_stock : List ℕ → Result StockTable StockFault
+read_as_stock bytes = do
   document ← document_of bytes
   keys ← keys_of document
   stock_of keys

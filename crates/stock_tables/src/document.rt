@@ -7,7 +7,7 @@ ghost use Rattle.unit_rules.specs.Memory.{Gives};
 ghost use Rattle.toml.specs.Data.{get_member};
 ghost use Rattle.toml.specs.View.{table_view, view};
 ghost use Rattle.stock_tables.specs.Curve.{IsCurveTo, IsRow};
-ghost use Rattle.stock_tables.specs.Key.{each, elements, number_in, pair_of, resistance_from, resistance_in, row_in, rows_in, three_in};
+ghost use Rattle.stock_tables.specs.Key.{each, elements, key_number, key_resistance, key_rows, pair_of, resistance_from, row_in, three_in};
 ghost use Rattle.stock_tables.specs.Motion.{IsResistance};
 ghost use Rattle.stock_tables.specs.declared.document.KeyFault.TheVariants.{Memory as OutOfMemory};
 
@@ -59,8 +59,8 @@ fn find<'a>(document: &'a Table, key: &str) -> Option<&'a Value>
 }
 
 /// The number from `low` to `high` at a key.
-pub(crate) fn number_at(document: &Table, key: &str, low: u32, high: u32) -> Result<u32, KeyFault>
-    ensures value { result ≡ number_in low high (get_member key.now (table_view document.now)) }
+pub(crate) fn key_number(document: &Table, key: &str, low: u32, high: u32) -> Result<u32, KeyFault>
+    ensures value { result ≡ key_number low high (get_member key.now (table_view document.now)) }
     ensures ranges { IfOk result (λ n. (low ≤ n) × (n ≤ high)) }
 {
     let Some(value) = find(document, key) else {
@@ -76,7 +76,7 @@ pub(crate) fn number_at(document: &Table, key: &str, low: u32, high: u32) -> Res
 }
 
 /// The rows at a key, whose values are from `low` to `high` and whose last speed is the top speed.
-pub(crate) fn curve_at(
+pub(crate) fn key_curve(
     alloc: Global,
     document: &Table,
     key: &str,
@@ -85,7 +85,7 @@ pub(crate) fn curve_at(
 ) -> Result<Curve, KeyFault>
     requires { values.1 ≤ 3000000 }
     ensures value { Gives (Err KeyFault.Memory)
-        (rows_in values.0 values.1 top (get_member key.now (table_view document.now))) result }
+        (key_rows values.0 values.1 top (get_member key.now (table_view document.now))) result }
     ensures curve { IfOk result (IsCurveTo top) }
     ensures least { IfOk result (All (λ r. values.0 ≤ r.value)) }
 {
@@ -208,8 +208,8 @@ fn resistance_from(three: (i64, (i64, i64))) -> Option<Resistance>
 }
 
 /// The resistance at a key.
-pub(crate) fn resistance_at(document: &Table, key: &str) -> Result<Resistance, KeyFault>
-    ensures value { result ≡ resistance_in (get_member key.now (table_view document.now)) }
+pub(crate) fn key_resistance(document: &Table, key: &str) -> Result<Resistance, KeyFault>
+    ensures value { result ≡ key_resistance (get_member key.now (table_view document.now)) }
     ensures ranges { IfOk result IsResistance }
 {
     let Some(value) = find(document, key) else {

@@ -8,7 +8,7 @@ ghost use Rattle.stock_tables.specs.StockFile.{at_key, keys_of};
 
 use crate::StockFault;
 use crate::curve::Curve;
-use crate::document::{KeyFault, curve_at, number_at, resistance_at};
+use crate::document::{KeyFault, key_curve, key_number, key_resistance};
 use crate::motion::Resistance;
 use std::alloc::Global;
 use toml::Table;
@@ -48,13 +48,13 @@ pub(crate) fn read_keys(alloc: Global, document: &Table) -> Result<Keys, StockFa
     ensures value { Gives (Err StockFault.Memory) (keys_of (table_view document.now)) result }
     ensures ranges { IfOk result AreKeys }
 {
-    let mass = at_key(1, number_at(document, "mass", 1000, 20_000_000))?;
-    let rotating = at_key(2, number_at(document, "rotating", 0, 300))?;
-    let length = at_key(3, number_at(document, "length", 1, 5000))?;
-    let top = at_key(4, number_at(document, "top", 1, 500))?;
-    let effort = at_key(5, curve_at(alloc, document, "effort", (0, 3_000_000), top))?;
-    let resistance = at_key(6, resistance_at(document, "resistance"))?;
-    let brake = at_key(7, curve_at(alloc, document, "brake", (50, 3000), top))?;
+    let mass = at_key(1, key_number(document, "mass", 1000, 20_000_000))?;
+    let rotating = at_key(2, key_number(document, "rotating", 0, 300))?;
+    let length = at_key(3, key_number(document, "length", 1, 5000))?;
+    let top = at_key(4, key_number(document, "top", 1, 500))?;
+    let effort = at_key(5, key_curve(alloc, document, "effort", (0, 3_000_000), top))?;
+    let resistance = at_key(6, key_resistance(document, "resistance"))?;
+    let brake = at_key(7, key_curve(alloc, document, "brake", (50, 3000), top))?;
     Ok(Keys {
         mass,
         rotating,

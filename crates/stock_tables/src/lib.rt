@@ -10,7 +10,7 @@ mod stock;
 
 ghost use Rattle.std.specs.Prelude.{◌≡◌, Err};
 ghost use Rattle.unit_rules.specs.Memory.{Gives};
-ghost use Rattle.stock_tables.specs.StockFile.{reading_of};
+ghost use Rattle.stock_tables.specs.StockFile.{read_as_stock};
 ghost use Rattle.stock_tables.specs.declared.StockFault.TheVariants.{Memory as OutOfMemory};
 
 use crate::document::read_document;
@@ -62,7 +62,7 @@ impl From<AllocError> for StockFault {
 /// the top speed. Last come the laws of the tables: from `k` km/h to the next the push drops by at
 /// most 10000·(2k+1) times the moved mass, and the braking climbs by at most 10000·(2k+1).
 pub fn read_stock(alloc: Global, bytes: &[u8]) -> Result<Stock, StockFault>
-    ensures { Gives (Err StockFault.Memory) (reading_of bytes.now) result }
+    ensures { Gives (Err StockFault.Memory) (read_as_stock bytes.now) result }
 {
     let document = read_document(alloc, bytes)?;
     let keys = read_keys(alloc, &document)?;

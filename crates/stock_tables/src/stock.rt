@@ -8,7 +8,7 @@ ghost use Rattle.stock_tables.specs.Curve.{IsCurveTo};
 ghost use Rattle.stock_tables.specs.Keys.{AreKeys};
 ghost use Rattle.stock_tables.specs.Motion.{IsResistance, brake_rows, push_rows};
 ghost use Rattle.stock_tables.specs.Stock.{IsStock, IsStrong, IsTableTo};
-ghost use Rattle.stock_tables.specs.StockFile.{stock_of, table_of};
+ghost use Rattle.stock_tables.specs.StockFile.{lawful_table, stock_of};
 
 use crate::StockFault;
 use crate::curve::Curve;
@@ -63,9 +63,9 @@ fn broken_at(fault: LawFault) -> u32
 }
 
 // The table of the key with that number, or the first speed from which its values break the law.
-fn table_of(number: u32, law: Law, rows: Vec<i64>) -> Result<Bands, StockFault>
+fn lawful_table(number: u32, law: Law, rows: Vec<i64>) -> Result<Bands, StockFault>
     requires { IsTable rows.items }
-    ensures value { result ≡ table_of number law rows.items }
+    ensures value { result ≡ lawful_table number law rows.items }
     ensures kept { IfOk result IsLawful }
 {
     match Bands::new(rows, law) {
@@ -89,12 +89,12 @@ fn push_of(
     requires resistance { IsResistance resistance }
     requires some { 1 ≤ top }
     ensures value { Gives (Err StockFault.Memory)
-        (table_of 5 (Drops moved_mass) (push_rows top effort.now resistance)) result }
+        (lawful_table 5 (Drops moved_mass) (push_rows top effort.now resistance)) result }
     ensures kept { IfOk result (IsTableTo top (Drops moved_mass)) }
 {
     let efforts = effort.values_to(alloc, top)?;
     let law = Law::Drop { per: moved_mass };
-    table_of(5, law, push_rows(efforts, resistance))
+    lawful_table(5, law, push_rows(efforts, resistance))
 }
 
 // The table of braking.
@@ -103,12 +103,12 @@ fn brake_of(alloc: Global, top: u32, rates: &Curve) -> Result<Bands, StockFault>
     requires strong { All (λ r. 50 ≤ r.value) rates.now }
     requires some { 1 ≤ top }
     ensures value { Gives (Err StockFault.Memory)
-        (table_of 7 Climb (brake_rows top rates.now)) result }
+        (lawful_table 7 Climb (brake_rows top rates.now)) result }
     ensures kept { IfOk result (IsTableTo top Climb) }
     ensures strong { IfOk result (IsStrong top) }
 {
     let rates = rates.values_to(alloc, top)?;
-    table_of(7, Law::Climb, brake_rows(rates))
+    lawful_table(7, Law::Climb, brake_rows(rates))
 }
 
 impl Stock {

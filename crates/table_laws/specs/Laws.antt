@@ -1,5 +1,5 @@
 -- How fast the values of a table may change from one speed to the next.
-use Rattle.std.specs.Prelude.{◌≡◌, ℕ, ◌*◌, ◌+◌, ◌^◌, ◌≤◌, ◌<◌, Bool, ℤ, pos, neg_ℤ, ◌-ℤ◌, ◌≤ℤ◌, int_le, List, length}
+use Rattle.std.specs.Prelude.{◌≡◌, ℕ, ◌*◌, ◌+◌, ◌^◌, ◌≤◌, ◌<◌, Bool, IsTrue, IsFalse, ℤ, pos, neg_ℤ, ◌-ℤ◌, ◌≤ℤ◌, int_le, List, length}
 use Rattle.run_rules.specs.Grids.{row, top_of, band_width}
 use Rattle.table_laws.specs.declared.Law.{Law}
 use Rattle.table_laws.specs.declared.Law.TheVariants.{Drop, Climb}
@@ -16,27 +16,23 @@ abbrev pub room : Law → ℕ → ℕ
 room (Drop per) count = per * count
 room Climb count = count
 
--- over so many squared speeds a value moves by at most that
-unfoldable pub MovesWithin : Law → ℕ → ℤ → ℤ → Type 0
-MovesWithin law count here there = bounded_move law here there ≤ℤ pos (room law count)
+-- whether over so many squared speeds a value moves by at most that
+unfoldable pub moves_within : Law → ℕ → ℤ → ℤ → Bool
+moves_within law count here there = int_le (bounded_move law here there) (pos (room law count))
 
--- the values keep the law from k km/h to the next
-abbrev pub KeepsLawAt : Law → List ℤ → ℕ → Type 0
-KeepsLawAt law rows k = MovesWithin law (band_width k) (row rows k) (row rows (k + 1))
-
--- whether they do
+-- whether the values keep the law from k km/h to the next
 abbrev pub keeps_law_at : Law → List ℤ → ℕ → Bool
-keeps_law_at law rows k = int_le (bounded_move law (row rows k) (row rows (k + 1))) (pos (room law (band_width k)))
+keeps_law_at law rows k = moves_within law (band_width k) (row rows k) (row rows (k + 1))
 
 -- they keep it up to the top speed
 abbrev pub KeepsLaw : Law → List ℤ → Type 0
-KeepsLaw law rows = (k : ℕ) → k < top_of rows → KeepsLawAt law rows k
+KeepsLaw law rows = (k : ℕ) → k < top_of rows → IsTrue (keeps_law_at law rows k)
 
 -- k km/h is the first speed from which they break it
 pub record IsFirstBreak (law : Law) (rows : List ℤ) (k : ℕ) : Type 0 where
   pub below_top : k < top_of rows
-  pub breaks : KeepsLawAt law rows k → ⊥
-  pub first : (j : ℕ) → j < k → KeepsLawAt law rows j
+  pub breaks : IsFalse (keeps_law_at law rows k)
+  pub first : (j : ℕ) → j < k → IsTrue (keeps_law_at law rows j)
 
 abbrev pub broken_at : LawFault → ℕ
 broken_at (Broken k) = k
@@ -54,11 +50,11 @@ pub record IsLeastRow (rows : List ℤ) (least : ℤ) : Type 0 where
   pub some : (k : ℕ) × (k ≤ top_of rows) × (least ≡ row rows k)
 
 -- what contracts see of bands: the values by whole km/h, and their law
-pub record Table : Type 0 where
+pub record BandTable : Type 0 where
   pub rows : List ℤ
   pub law : Law
 
 -- a table that keeps its law
-pub record IsLawful (table : Table) : Type 0 where
+pub record IsLawful (table : BandTable) : Type 0 where
   pub in_range : IsTable table.rows
   pub lawful : KeepsLaw table.law table.rows

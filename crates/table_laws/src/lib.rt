@@ -2,10 +2,10 @@
 //! squared speed to the next.
 #![tactic(auto)]
 
-ghost use Rattle.std.specs.Prelude.{◌≡◌, ℕ, ◌+◌, ◌*◌, ◌^◌, ◌<◌, ◌≤◌, pos, neg_ℤ, ◌≤ℤ◌, ◌↔◌, IsTrue, IfOk, OnOk, IfErr};
+ghost use Rattle.std.specs.Prelude.{◌≡◌, ℕ, ◌+◌, ◌*◌, ◌^◌, ◌<◌, ◌≤◌, pos, neg_ℤ, ◌≤ℤ◌, IsTrue, IfOk, OnOk, IfErr};
 ghost use Rattle.run_rules.specs.Grids.{row, top_of, band_width, value_at};
 ghost use Rattle.run_rules.specs.Speeds.{squared};
-ghost use Rattle.table_laws.specs.Laws.{IsTable, IsLawful, IsFirstBreak, IsLeastRow, KeepsLaw, MovesWithin, broken_at};
+ghost use Rattle.table_laws.specs.Laws.{IsTable, IsLawful, IsFirstBreak, IsLeastRow, KeepsLaw, broken_at, moves_within};
 
 mod grid;
 mod near;
@@ -44,9 +44,9 @@ pub struct Bands {
 }
 
 impl Model for Bands {
-    ghost use Rattle.table_laws.specs.Laws.{Table, IsLawful};
+    ghost use Rattle.table_laws.specs.Laws.{BandTable, IsLawful};
 
-    ghost Value = { Table };
+    ghost Value = { BandTable };
 
     ghost view = { λ b. record { rows = b.rows.items; law = b.law } };
 
@@ -64,7 +64,7 @@ impl Bands {
     {
         let top = rows.len() - 1;
         for k in 0..top {
-            if !keeps_law(law, rows[k], rows[k + 1], k as u32) {
+            if !keeps_law_at(law, rows[k], rows[k + 1], k as u32) {
                 return Err(LawFault::Broken { k: k as u32 });
             }
         }
@@ -84,8 +84,8 @@ impl Bands {
         ensures law { result ≡ self.now.law }
         ensures kept { IsLawful self.now }
         ensures between { (u : ℕ) → u < squared (top_of self.now.rows)
-            → MovesWithin self.now.law 1
-            (value_at self.now.rows u) (value_at self.now.rows (u + 1)) }
+            → IsTrue (moves_within self.now.law 1
+            (value_at self.now.rows u) (value_at self.now.rows (u + 1))) }
     {
         self.law
     }
@@ -151,13 +151,13 @@ fn least_of(rows: &[i64]) -> i64
 }
 
 // Whether the values keep the law from `k` km/h to the next.
-fn keeps_law(law: Law, low: i64, high: i64, k: u32) -> bool
+fn keeps_law_at(law: Law, low: i64, high: i64, k: u32) -> bool
     requires low_most { low ≤ℤ pos (10 ^ 15) }
     requires low_least { neg_ℤ (pos (10 ^ 15)) ≤ℤ low }
     requires high_most { high ≤ℤ pos (10 ^ 15) }
     requires high_least { neg_ℤ (pos (10 ^ 15)) ≤ℤ high }
     requires slow { k ≤ 500 }
-    ensures { IsTrue result ↔ MovesWithin law (band_width k) low high }
+    ensures { result ≡ moves_within law (band_width k) low high }
 {
     match law {
         Law::Drop { per } => low - high <= room_of(k, per) as i64,

@@ -6,6 +6,9 @@ use Rattle.step_rule.specs.Motion.{Motion}
 use Rattle.step_rule.proofs.HillFacts.{IsGentle-least, IsHeld-least}
 use Rattle.step_rule.proofs.Rule.new.Goals as goal
 
+pub overflow_cast-rate : goal.overflow_cast-rate
+overflow_cast-rate c = omega (arith, ints, clamps)
+
 pub invariant_of-result : goal.invariant_of-result
 invariant_of-result c =
     let held_fits : SFits w64 c.least-held.result = omega (arith, ints) in

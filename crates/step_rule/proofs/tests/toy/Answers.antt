@@ -1,10 +1,10 @@
 use Rattle.std.proofs.Common.{ap, arith, pos}
 use Rattle.std.proofs.lemmas.Int.{ints}
-use Rattle.table_laws.specs.Laws.{Table}
+use Rattle.table_laws.specs.Laws.{BandTable}
 use Rattle.table_laws.proofs.ToyFacts.{row-toy}
 use Rattle.step_rule.proofs.tests.toy.Goals as goal
 
 pub new-requires-clause-brakes : goal.new-requires-clause-brakes
 new-requires-clause-brakes g c =
-    let made = ap (λ (table : Table). table.rows) c.in_ok-brake.ensures in
+    let made = ap (λ (table : BandTable). table.rows) c.in_ok-brake.ensures in
     row-toy c.in_ok-brake.brake.rows (pos 25920) (pos 25920) (pos 12960) made (omega (arith, ints)) (omega (arith, ints))
