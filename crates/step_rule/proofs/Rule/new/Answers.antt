@@ -28,8 +28,3 @@ invariant_of-result c =
           let brakes = value_at-least c.args.brake.rows (pos 12960) u on c.requires.brakes in
           omega (arith, ints, clamps)));
     })
-
-pub overflow_cast-rate : goal.overflow_cast-rate
-overflow_cast-rate c =
-    let rate_fits : SFits w64 c.min-rate.result = omega (arith, ints, clamps) in
-    simp to_z-of_z (omega (arith, ints, clamps), omega (arith, ints, clamps))
