@@ -2,11 +2,12 @@
 //! end of the line or to the first point that no train gets to.
 #![tactic(auto)]
 
-ghost use Rattle.std.specs.Prelude.{◌≡◌, ℕ, ◌+◌, ◌<◌, ◌≤◌, ◌↔◌, List, length, slice_index, IfNone, IfSome, IsTrue, Some};
+ghost use Rattle.std.specs.Prelude.{◌≡◌, ℕ, ◌+◌, ◌<◌, ◌≤◌, pos, ◌≤ℤ◌, ◌↔◌, List, length, slice_index, IfNone, IfSome, IsTrue, Some};
 ghost use Rattle.run_rules.specs.Drives.{AgreeAt, EnvelopesAgreeAfter, EnvelopesAgreeBefore, HoldsEnvelope, IsOnlyReach, ReachesUnderCaps, reach_of};
 ghost use Rattle.run_rules.specs.Runs.{ReachesAs};
 ghost use Rattle.run_rules.specs.Walks.{AgreeOutside, EndsAt, IsBlockedAfter, IsNextNumber, IsOwnBrakingList, count_of, known_at};
 ghost use Rattle.step_rule.specs.Motion.{cells_of, most_of, step_rule_of};
+ghost use Rattle.effort_run.specs.Next.{IsNext};
 
 use std::sync::ledger::Ledger;
 use step_rule::Rule;
@@ -158,6 +159,14 @@ fn number_after<L: Ledger>(
         return Some(cap);
     }
     let up = rule.up_near(i, now, near, steps);
+    next_speed(now, up, cap)
+}
+
+// The greatest squared speed that `cap` and `up` allow, unless it is a standstill after another.
+fn next_speed(now: u32, up: i64, cap: u32) -> Option<u32>
+    ensures next { IfSome result (λ w. IsNext now up cap w) }
+    ensures none { IfNone result ((u : ℕ) → u ≤ cap → pos u ≤ℤ up → u + now < 1) }
+{
     let most = up.min(i64::from(cap));
     if most < 0 || now == 0 && most == 0 {
         return None;
