@@ -1,0 +1,395 @@
+#!/usr/bin/env python3
+"""Tries the wrapper `./rtime` in small repositories, with an `rt` that only tells, waits and copies.
+
+Each try has a fresh folder: `repo/`, with the wrapper, crates.txt and two crates of a file each;
+`bin/`, with the programs that the wrapper needs and the `rt` below; and `tmp/`, for its log. The
+`rt` writes the lines of a proving of two crates, waits SLOW seconds, copies the proved program, and
+counts its calls in `calls`.
+"""
+
+import os
+import pathlib
+import pty
+import shutil
+import signal
+import subprocess
+import sys
+import tempfile
+import time
+from contextlib import contextmanager
+
+sys.dont_write_bytecode = True  # the sources have no folder of compiled ones beside them
+
+import compare
+
+SECONDS = 20
+TOOLS = "bash cat cp cut find flock mkdir mktemp readlink rm sleep tail touch tr wc".split()
+LINE = "line,Two,2\n"
+WORDS = ["caps", "line.csv", "1", "36"]
+CAPS = "".join(f"{point} 12960000\n" for point in range(3))
+CRATES = ["unit_rules", "rtime"]
+
+RT = """#!/usr/bin/env bash
+echo "$$" >>"$TRY/calls"
+echo "rt: chose --jobs 4 for unit_rules"
+echo "statements std: modules loaded=7 checked=0"
+echo "fn unit_rules::read: proved"
+echo "crate unit_rules: modules loaded=7 checked=7"
+echo "library unit_rules: modules loaded=7 checked=0"
+echo "crate rtime: modules loaded=7 checked=7"
+"""
+PROVES = RT + 'sleep "$SLOW"; cp "$PROGRAM" out/rtime; out/rtime; exit 2\n'
+HALF = RT + 'head -c 9999 "$PROGRAM" >out/rtime; chmod +x out/rtime; sleep "$SLOW"; exit 1\n'
+REFUSES = RT + "echo 'fn rtime::main: REFUSED'; exit 1\n"
+STEPS = [
+    "rtime: proving and building the program, once: this takes about ten minutes",
+    "rtime: crate 1 of 2: unit_rules is proved",
+    "rtime: crate 2 of 2: rtime is proved",
+]
+WAITS = "rtime: another call is proving the program: this one waits for it"
+
+
+class Try:
+    """A small repository in a fresh folder."""
+
+    def __init__(self, folder, rt=PROVES, slow=0, tools=TOOLS):
+        self.folder = folder
+        self.repo, self.bin, self.tmp = (folder / name for name in ("repo", "bin", "tmp"))
+        self.program = self.repo / "crates" / "rtime" / "out" / "rtime"
+        self.source = self.repo / "crates" / "unit_rules" / "src" / "lib.rt"
+        for path in (self.repo, self.bin, self.tmp):
+            path.mkdir()
+        for tool in [*tools, "head", "chmod"]:
+            (self.bin / tool).symlink_to(shutil.which(tool))
+        self.lay_sources()
+        self.set_rt(rt)
+        self.slow = slow
+
+    def lay_sources(self):
+        """Lays the wrapper, the crates and a line file."""
+        shutil.copy(compare.TOP / "rtime", self.repo)
+        (self.repo / "crates.txt").write_text("unit_rules:\nrtime: unit_rules\n")
+        for crate in CRATES:
+            for part in ("src", "specs", "proofs"):
+                (self.repo / "crates" / crate / part).mkdir(parents=True)
+                (self.repo / "crates" / crate / part / "lib.rt").write_text("")
+        (self.repo / "line.csv").write_text(LINE)
+
+    def set_rt(self, text):
+        """Puts an `rt` on the path, or none."""
+        (self.bin / "rt").unlink(missing_ok=True)
+        if text:
+            (self.bin / "rt").write_text(text)
+            (self.bin / "rt").chmod(0o755)
+
+    def start(self, words=WORDS, wrapper="./rtime", **how):
+        """Starts the wrapper, in the repository where nothing else is said."""
+        env = {"PATH": str(self.bin), "TMPDIR": str(self.tmp), "TRY": str(self.folder)}
+        env |= {"SLOW": str(self.slow), "PROGRAM": str(compare.PROGRAM), **how.pop("env", {})}
+        how = {"cwd": self.repo, "stdout": subprocess.PIPE, "stderr": subprocess.PIPE} | how
+        return subprocess.Popen([wrapper, *words], env=env, **how)
+
+    def call(self, *given, **how):
+        """The status, the output and the lines of the error output of a call."""
+        return ended(self.start(*given, **how))
+
+    def calls(self):
+        """How often `rt` was called."""
+        path = self.folder / "calls"
+        return len(path.read_text().split()) if path.exists() else 0
+
+    def waits_for(self, is_so):
+        """Waits until something is so."""
+        end = time.monotonic() + SECONDS
+        while not is_so():
+            if time.monotonic() > end:
+                raise TimeoutError("what was waited for didn't come")
+            time.sleep(0.01)
+
+    def logs(self):
+        """The files that are left in the folder for temporary ones."""
+        return list(self.tmp.iterdir())
+
+    def is_rt_running(self):
+        """Whether one of the `rt` that were called still runs."""
+        numbers = (self.folder / "calls").read_text().split()
+        return any(pathlib.Path(f"/proc/{number}").exists() for number in numbers)
+
+
+def ended(process):
+    """The status, the output and the lines of the error output of a process, once it has ended."""
+    output, errors = process.communicate(timeout=SECONDS)
+    return process.returncode, output.decode(), errors.decode().splitlines()
+
+
+@contextmanager
+def trying(**how):
+    """A small repository that is there for one test."""
+    with tempfile.TemporaryDirectory() as folder:
+        yield Try(pathlib.Path(folder), **how)
+
+
+def same(*pairs):
+    """How the first pair of found and wanted differs; empty where none does."""
+    for found, wanted in pairs:
+        if found != wanted:
+            return f"  found {found!r}\n  wanted {wanted!r}\n"
+    return ""
+
+
+DONE = (0, CAPS, [])
+
+
+def first_call():
+    """The first call tells what it does, a line a crate, and later ones say nothing and don't prove."""
+    with trying() as it:
+        first, later = it.call(), it.call()
+        return same((first, (0, CAPS, STEPS)), (later, DONE), (it.calls(), 1), (it.logs(), []))
+
+
+def quiet_call():
+    """With RTIME_QUIET=1 the first call tells nothing."""
+    with trying() as it:
+        return same((it.call(env={"RTIME_QUIET": "1"}), DONE), (it.calls(), 1))
+
+
+def on_terminal():
+    """On a terminal the steps take each other's place in one line, which is cleared at the end."""
+    with trying() as it:
+        ours, theirs = pty.openpty()
+        process = it.start(stderr=theirs)
+        os.close(theirs)
+        output, _ = process.communicate(timeout=SECONDS)
+        text = read_all(ours)
+        head, *steps = text.replace("\r\n", "\n").split("\r")
+        wanted = ["crate 1 of 2: unit_rules::read", *(step.removeprefix("rtime: ") for step in STEPS[1:]), ""]
+        found = [step.strip().removeprefix("rtime: ") for step in steps]
+        wide = [step for step in steps if len(step) > 79 or "\n" in step]
+        return same((head, STEPS[0] + "\n"), (found, [*wanted[:3], ""]), (wide, []), (output.decode(), CAPS))
+
+
+def read_all(terminal):
+    """All that was written to a terminal whose other end is closed."""
+    text = b""
+    try:
+        while part := os.read(terminal, 4096):
+            text += part
+    except OSError:  # the end of a terminal
+        pass
+    os.close(terminal)
+    return text.decode()
+
+
+def changes(it):
+    """Ways to change the sources."""
+    other = it.source.with_name("other.rt")
+    yield "edited in place", lambda: it.source.write_text("x")
+    yield "added", lambda: other.write_text("")
+    yield "renamed", lambda: other.rename(it.source.with_name("third.rt"))
+    yield "removed", lambda: it.source.with_name("third.rt").unlink()
+    yield "a crate more", lambda: (it.repo / "crates.txt").write_text("rtime:\n")
+
+
+def changed_sources():
+    """Where a source was changed, added, renamed or removed, the next call proves, and only that."""
+    with trying() as it:
+        it.call()
+        for number, (way, change) in enumerate(changes(it), 2):
+            change()
+            it.call()
+            it.call()
+            if it.calls() != number:
+                return f"  {way}: rt was called {it.calls()} times\n"
+        return ""
+
+
+def changed_meanwhile():
+    """A source that is changed while the program is built is newer than it."""
+    with trying(slow=0.5) as it:
+        process = it.start()
+        it.waits_for(it.calls)
+        it.source.write_text("x")
+        return same((ended(process)[0], 0), (it.call()[0], 0), (it.calls(), 2))
+
+
+def other_files():
+    """What is no source doesn't make the program old."""
+    with trying() as it:
+        it.call()
+        (it.repo / "line.csv").write_text(LINE)
+        (it.program.parent / "more").write_text("")
+        (it.repo / "crates" / "rtime" / "stdout").write_text("")
+        return same((it.call(), DONE), (it.calls(), 1))
+
+
+def through_links():
+    """Through links, from other folders and by a path with blanks the sources are found."""
+    with trying() as it:
+        places = it.folder / "a b"
+        places.mkdir()
+        (places / "whole").symlink_to(it.repo / "rtime")
+        (places / "near").symlink_to("../repo/rtime")
+        (places / "twice").symlink_to("near")
+        (places / "folder").symlink_to(it.repo)
+        (it.bin / "rtime").symlink_to(places / "twice")
+        shutil.copy(it.repo / "line.csv", places)
+        ways = ["./whole", "./near", "./twice", "./folder/rtime", str(places / "near"), it.bin / "rtime"]
+        found = [it.call(wrapper=way, cwd=places)[:2] for way in ways]
+        by_bash = it.call(["rtime", *WORDS], wrapper=it.bin / "bash")[:2]
+        return same(([*found, by_bash], [(0, CAPS)] * 7), (it.calls(), 1))
+
+
+def two_at_once():
+    """Of two first calls one proves, and the other says that it waits; both answer."""
+    with trying(slow=0.5) as it:
+        first = it.start()
+        it.waits_for(it.calls)
+        second = ended(it.start())
+        return same((second, (0, CAPS, [WAITS])), (ended(first), (0, CAPS, STEPS)), (it.calls(), 1))
+
+
+def first_fails():
+    """Where the call that is waited for fails, the one that waits proves."""
+    with trying(slow=0.5, rt=HALF) as it:
+        first = it.start()
+        it.waits_for(it.calls)
+        second = it.start()
+        it.set_rt(PROVES)
+        return same((ended(first)[0], 70), (ended(second), (0, CAPS, [WAITS, *STEPS])), (it.calls(), 2))
+
+
+def without_flock():
+    """Where there is no flock, a first call proves and answers."""
+    with trying(tools=[tool for tool in TOOLS if tool != "flock"]) as it:
+        return same((it.call(), (0, CAPS, STEPS)), (it.call(), DONE))
+
+
+def interrupted():
+    """Interrupted, it ends what it started, and leaves no log and no program; the next call proves."""
+    for rt in (PROVES, HALF):
+        for number in (signal.SIGINT, signal.SIGTERM, signal.SIGHUP):
+            with trying(slow=SECONDS, rt=rt) as it:
+                process = it.start()
+                it.waits_for(it.program.exists if rt == HALF else it.calls)
+                process.send_signal(number)
+                status = ended(process)[0]
+                left = it.logs(), it.program.exists(), it.is_rt_running()
+                it.slow = 0
+                it.set_rt(PROVES)
+                if difference := same(
+                    (status, -number), (left, ([], False, False)), (it.call(), (0, CAPS, STEPS))
+                ):
+                    return f"  {number.name}:\n{difference}"
+    return ""
+
+
+def at_the_keyboard():
+    """Ctrl-C, which reaches the whole group of processes, is answered as well."""
+    with trying(slow=SECONDS, rt=HALF) as it:
+        process = it.start(start_new_session=True)
+        it.waits_for(it.program.exists)
+        os.killpg(process.pid, signal.SIGINT)
+        status = ended(process)[0]
+        return same((status, -signal.SIGINT), ((it.logs(), it.program.exists()), ([], False)))
+
+
+def killed():
+    """Killed while it builds, it can't take its program back; the next call doesn't run that."""
+    with trying(slow=1, rt=HALF) as it:
+        process = it.start(stdout=subprocess.DEVNULL, stderr=subprocess.DEVNULL)
+        it.waits_for(it.program.exists)
+        process.kill()
+        process.wait()
+        it.set_rt(PROVES)
+        status, output, errors = it.call()
+        return same(((status, output), (0, CAPS)), (errors[-3:], STEPS), (it.calls(), 2))
+
+
+def no_rt():
+    """Without `rt` the first call ends with 69 and one line; a current program needs none."""
+    with trying(rt=None) as it:
+        line = "rtime: rt isn't on the path: add the folder bin of the Rattle kit to PATH, and call again"
+        first = it.call()
+        it.set_rt(PROVES)
+        it.call()
+        it.set_rt(None)
+        return same((first, (69, "", [line])), (it.call(), DONE))
+
+
+def no_program():
+    """Where proving fails, or the program doesn't run, it ends with 70 and says what to do."""
+    line = "rtime: the program can't be proved and built: above stands why; mend it, and call again"
+    for rt in (REFUSES, HALF):
+        with trying(rt=rt) as it:
+            status, output, errors = it.call(env={"RTIME_QUIET": "1"})
+            told = "crate rtime: modules loaded=7 checked=7" in errors
+            left = it.logs(), it.program.exists()
+            difference = same(((status, output, errors[-1]), (70, "", line)), (told, True), (left, ([], False)))
+            if difference:
+                return difference
+    return ""
+
+
+def no_room():
+    """Where no folder can be made for the program, it ends with 70 and says so."""
+    with trying() as it:
+        (it.repo / "crates" / "rtime" / "out").write_text("")
+        status, output, errors = it.call()
+        line = "rtime: ./crates/rtime/out can't be made: see who may write there"
+        return same(((status, output, errors[-1]), (70, "", line)), (it.calls(), 0))
+
+
+def input_is_kept():
+    """What stands on the input is the program's, in a first call too."""
+    with trying() as it:
+        process = it.start(["caps", "/dev/stdin", "1", "36"], stdin=subprocess.PIPE)
+        output, _ = process.communicate(LINE.encode(), timeout=SECONDS)
+        return same((output.decode(), CAPS))
+
+
+def closed_errors():
+    """With a closed error output the first call answers as well."""
+    with trying() as it:
+        words = ["-c", 'exec "$@" 2>&-', "bash", "./rtime", *WORDS]
+        return same((it.call(words, wrapper=it.bin / "bash")[:2], (0, CAPS)))
+
+
+TESTS = [
+    first_call,
+    quiet_call,
+    on_terminal,
+    changed_sources,
+    changed_meanwhile,
+    other_files,
+    through_links,
+    two_at_once,
+    first_fails,
+    without_flock,
+    interrupted,
+    at_the_keyboard,
+    killed,
+    no_rt,
+    no_program,
+    no_room,
+    input_is_kept,
+    closed_errors,
+]
+
+
+def results():
+    """Of each test its name, whether it passed, and what differed."""
+    for test in TESTS:
+        try:
+            difference = test()
+        except (TimeoutError, subprocess.TimeoutExpired) as error:
+            difference = f"  {error}\n"
+        yield f"wrapper: {test.__doc__.splitlines()[0]}", not difference, difference
+
+
+def main():
+    compare.build()
+    return 0 if compare.report(results()) else 1
+
+
+if __name__ == "__main__":
+    sys.exit(main())
