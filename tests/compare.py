@@ -11,6 +11,7 @@ how many were stalled. tests/run.py makes the same comparisons with the COUNT an
 """
 
 import csv
+import os
 import pathlib
 import subprocess
 import sys
@@ -33,7 +34,7 @@ SECONDS = 60
 COUNT = 300
 SEED = 4
 
-Result = tuple[str, bool, str]
+Result = tuple[str, bool | None, str]  # a name; whether it passed (none: skipped); a detail
 Answer = tuple[int, str]
 
 
@@ -314,8 +315,12 @@ class Journey:
 
 
 def program_answer(words: Sequence[str], folder: pathlib.Path) -> Answer:
-    """The exit status and the output of the program, run in a folder."""
-    ended = subprocess.run([PROGRAM, *words], cwd=folder, stdout=subprocess.PIPE, timeout=SECONDS)
+    """The exit status and the output of the program, run in a folder; standard error is output too."""
+    pipes = {"stdout": subprocess.PIPE, "stderr": subprocess.STDOUT}
+    try:
+        ended = subprocess.run([PROGRAM, *words], cwd=folder, timeout=SECONDS, **pipes)
+    except subprocess.TimeoutExpired:
+        return -1, f"ended after {SECONDS} s"
     return ended.returncode, ended.stdout.decode(errors="replace")
 
 
@@ -386,25 +391,34 @@ def comparisons(
         yield "all kinds of trains are drawn", not missing, f"  none is {missing}\n"
 
 
-def build() -> None:
-    """Proves and builds the program where it isn't current; without words it ends with status 2."""
-    if subprocess.run([TOP / "rtime"], stdout=subprocess.DEVNULL).returncode != 2:
-        sys.exit("the program isn't proved and built")
+def why_older() -> str:
+    """Why the program isn't one of the sources as they stand; empty where it is."""
+    if not os.access(PROGRAM, os.X_OK):
+        return "it isn't there: ./rtime proves and builds it"
+    parts = (TOP.glob(f"crates/*/{part}/**/*") for part in ("src", "specs", "proofs"))
+    built = PROGRAM.stat().st_mtime_ns
+    newer = [path for paths in parts for path in paths if path.stat().st_mtime_ns > built]
+    return f"{newer[0].relative_to(TOP)} is newer: ./rtime proves and builds it anew" if newer else ""
 
 
 def report(results: Iterable[Result]) -> bool:
-    """Prints the results that differ and how many passed; whether there are some, and all passed."""
-    counts: Counter[bool] = Counter()
+    """Prints what failed or was skipped and how many passed; whether there are some, and none failed."""
+    counts: Counter[bool | None] = Counter()
     for name, passed, detail in results:
         counts[passed] += 1
-        if not passed:
+        if passed is None:
+            print(f"SKIPPED {name}: {detail}")
+        elif not passed:
             print(f"FAILED {name}\n{detail}", end="")
+    if counts[None]:
+        print(f"{counts[None]} skipped")
     print(f"{counts[True]} passed, {counts[False]} failed")
     return bool(counts[True]) and not counts[False]
 
 
 def main() -> int:
-    build()
+    if older := why_older():
+        sys.exit(f"the program isn't current: {older}")
     kinds: Counter[str] = Counter()
     passed = report(comparisons(*map(int, sys.argv[1:3]), kinds=kinds))
     for kind in KINDS:

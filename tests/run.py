@@ -1,5 +1,11 @@
 #!/usr/bin/env python3
-"""Runs the cases of tests/cases/ against the proved program, then the comparisons of compare.py.
+"""Runs the tests over the proved program: tests/run.py [PART ..]
+
+The parts, all of which are run where none is named, are `cases`, those of tests/cases/; `compare`, the
+comparisons of compare.py; `runner`, broken cases that the runner has to fail (runner.py); `wrapper`, the
+calls of `./rtime` (wrapper.py); and `documents`, the commands of the documents (documents.py). It ends
+with a line 'N passed, M failed', and before it says how many were skipped, where some were. A program
+that is older than its sources fails, and nothing is run.
 
 Each file of tests/cases/ is TOML and has tables `[[case]]` with
 
@@ -10,6 +16,7 @@ Each file of tests/cases/ is TOML and has tables `[[case]]` with
             bytes; `{ parts = [..] }`, texts and `{ text = "..", times = N }` one after the other;
             `{ fifo = ".." }`, a FIFO into which the text is written once it is read; or
             `{ path = ".." }`, the bytes of a file of the repository
+    beside  those of the files that no word names; each other one has to be named by a word
     input   the text of standard input (none: no bytes)
     stdout  a place to which the output goes in place of a pipe, as "/dev/full" or "closed"
     status  the exit status that is wanted (none: 0)
@@ -19,8 +26,9 @@ Each file of tests/cases/ is TOML and has tables `[[case]]` with
     begins  the lines with which the output begins, and
     has     the list of whole lines that stand in the output, in that order; where the command prints a
             line for each point, its lines are also those of the points 0, 1, 2 and so on
-
-Standard error counts as output. A case with other keys, or with two ways to say its output, is refused.
+    errors  the whole standard error that is wanted (none: nothing)
+    seconds the time after which a run that goes on is ended, and fails (none: 60)
+    skip    why the case isn't run: it is counted and said, and neither passes nor fails
 
 and tables `[[table]]`, each with `words`, `name`, the name `file` of one file, and `rows` of three:
 the content of the file (records parted by ` / `), the output in the same way, and the status. Beside
@@ -32,35 +40,55 @@ them a table may have
     wants   how the outputs of the rows are read: "output" (which is meant without it) or "begins"
 
 and tables `[[words]]`, each with `name` and `rows` of words that one answer is wanted for, beside the
-keys of a case.
+keys of a case. A file that some row names needs no `beside`.
+
+What can't be read in this way fails: another key or table, no way or two to say the output, a way that
+says nothing, a table without a row, two cases of one name, a file that isn't used.
 
 The program is started in a new folder that holds those files alone.
 """
 
-import itertools
 import os
 import pathlib
+import signal
 import subprocess
 import sys
 import tempfile
 import threading
 import tomllib
+from collections import Counter
 
 sys.dont_write_bytecode = True  # the sources have no folder of compiled ones beside them
 
 import compare
+import documents
+import runner
+import wrapper
 
 TOP = pathlib.Path(__file__).resolve().parent.parent
+CASES = TOP / "tests" / "cases"
 SECONDS = 60
-KEYS = {"name", "words", "files", "input", "stdout", "status", "head"}
+KEYS = {"name", "words", "files", "beside", "input", "stdout", "status", "head", "errors", "seconds", "skip"}
+TABLE_KEYS = {"words", "name", "file", "rows", "files", "base", "wants"}
+TABLES = {"case", "table", "words"}
 WAYS = ({"output"}, {"spans"}, {"begins"}, {"has"}, {"begins", "has"})
+CONTENTS = (
+    *({"parts"}, {"hex"}, {"path"}, {"fifo"}),
+    *({"text", "times"}, {"text", "size"}, {"size"}),
+)
 OF_POINTS = {"caps", "brakes", "envelope"}
+
+
+class Broken(Exception):
+    """A case that can't be read."""
 
 
 def content_of(given):
     """The bytes of a file of a case."""
     if isinstance(given, str):
         return given.encode()
+    if given.keys() not in CONTENTS:
+        raise Broken(f"a file is said by {sorted(given)}")
     if "parts" in given:
         return b"".join(map(content_of, given["parts"]))
     if "times" in given:
@@ -103,12 +131,31 @@ def is_wanted(case, output):
     return text.startswith(case.get("begins", "")) and has and of_points
 
 
+def demand(is_so, text):
+    """Goes on where something is so of a case; it is broken elsewhere."""
+    if not is_so:
+        raise Broken(text)
+
+
 def checked(case):
     """The case, where it has known keys alone and says its output in one way."""
     ways = case.keys() - KEYS
-    if ways not in WAYS:
-        sys.exit(f"{case['name']}: it says its output by {sorted(ways)}")
+    demand({"name", "words"} <= case.keys(), "it has no name or no words")
+    demand(ways in WAYS, f"it says its output by {sorted(ways)}")
+    demand(all(case[way] for way in ways - {"output"}), "it says nothing of its output")
+    demand(case.get("skip", "so"), "it is skipped without a reason")
+    demand("head" not in case or "spans" in ways, "it has a head without spans")
     return case
+
+
+def with_files_used(cases):
+    """The cases of a table, where each file is named by a word of one of them, or is `beside`."""
+    words = [word for case in cases for word in case["words"]]
+    for case in cases:
+        files, beside = case.get("files", {}).keys(), set(case.get("beside", []))
+        unnamed = {name for name in files if name not in words}
+        demand(unnamed == beside, f"no word names {sorted(unnamed)}, and {sorted(beside)} are said so")
+    return cases
 
 
 def wanted_of(case):
@@ -151,17 +198,48 @@ def case_of(table, content, output, status):
     }
 
 
-def cases_of(path):
-    """The cases of a file, each row of a table as one."""
-    tables = tomllib.loads(path.read_text())
-    yield from map(checked, tables.get("case", []))
-    for table in tables.get("table", []):
-        for row in table["rows"]:
-            yield checked(case_of(table, *row))
-    for table in tables.get("words", []):
-        rows = table.pop("rows")
-        for row in rows:
-            yield checked({**table, "name": f"{table['name']}: {row}", "words": row})
+def rows_of(table):
+    """The cases of a table `[[table]]`, one for each row."""
+    demand(table.keys() <= TABLE_KEYS, f"it has the keys {sorted(table.keys() - TABLE_KEYS)}")
+    demand(table.get("wants", "output") in ("output", "begins"), "it wants what isn't known")
+    return [case_of(table, *row) for row in table["rows"]]
+
+
+def cases_in(kind, table):
+    """The cases of a table of a file: its own, or one for each row."""
+    if kind == "case":
+        return [table]
+    if kind == "table":
+        return rows_of(table)
+    given = {key: value for key, value in table.items() if key != "rows"}
+    return [{**given, "name": f"{table['name']}: {row}", "words": row} for row in table["rows"]]
+
+
+def read_cases(kind, table):
+    """The cases of a table, read whole; one that can't be read is broken, whatever the reason."""
+    try:
+        cases = [checked(case) for case in cases_in(kind, table)]
+        demand(cases, "it has no rows")
+        for case in cases:
+            for given in case.get("files", {}).values():
+                "fifo" in given or content_of(given)
+            demand(set(case) & {"begins", "has"} or output_of(case) is not None, "")
+        return with_files_used(cases)
+    except (AttributeError, KeyError, OSError, TypeError, ValueError) as error:
+        raise Broken(f"{type(error).__name__}: {error}") from error
+
+
+def tables_of(path):
+    """The tables of a file of cases, each with its kind."""
+    try:
+        tables = tomllib.loads(path.read_text())
+    except ValueError as error:
+        raise Broken(str(error)) from error
+    demand(path.suffix == ".toml", "it is no file of cases")
+    demand(tables.keys() <= TABLES, f"it has {sorted(tables.keys() - TABLES)}")
+    found = [(kind, table) for kind, listed in tables.items() for table in listed]
+    demand(found, "it has no case")
+    return found
 
 
 def lay(path, given):
@@ -173,22 +251,30 @@ def lay(path, given):
     threading.Thread(target=path.write_text, args=(given["fifo"],), daemon=True).start()
 
 
+def ended(words, folder, stdin, seconds, stdout):
+    """The status, output and standard error of a command; it is ended where it goes on too long."""
+    how = {"stdin": subprocess.PIPE, "stdout": stdout, "stderr": subprocess.PIPE}
+    process = subprocess.Popen(words, cwd=folder, start_new_session=True, **how)
+    try:
+        output, errors = process.communicate(stdin, timeout=seconds)
+    except subprocess.TimeoutExpired:
+        os.killpg(process.pid, signal.SIGKILL)
+        return f"ended after {seconds} s", *process.communicate()
+    return process.returncode, output, errors
+
+
 def run(case, folder):
-    """The status and the output of a case."""
+    """The status, the output and the standard error of a case."""
     for name, given in case.get("files", {}).items():
         lay(folder / name, given)
     words = [str(TOP / "rtime"), *(content_of(word) for word in case["words"])]
-    stdin = case.get("input", "").encode()
-    stdout = case.get("stdout")
-    if stdout is None:
-        pipes = {"stdout": subprocess.PIPE, "stderr": subprocess.STDOUT}
-        ended = subprocess.run(words, cwd=folder, input=stdin, timeout=SECONDS, **pipes)
-        return ended.returncode, ended.stdout
-    shell = ["bash", "-c", 'exec "$@" >&-' if stdout == "closed" else f'exec "$@" >{stdout}', "bash"]
-    ended = subprocess.run(
-        [*shell, *words], cwd=folder, input=stdin, stderr=subprocess.PIPE, timeout=SECONDS
-    )
-    return ended.returncode, ended.stderr
+    given = case.get("input", "").encode(), case.get("seconds", SECONDS)
+    place = case.get("stdout")
+    if place is None:
+        return ended(words, folder, *given, subprocess.PIPE)
+    to = ">&-" if place == "closed" else f">{place}"
+    status, _, errors = ended(["bash", "-c", f'exec "$@" {to}', "bash", *words], folder, *given, None)
+    return status, b"", errors
 
 
 def shown(text):
@@ -196,24 +282,69 @@ def shown(text):
     return repr(text if len(text) <= 400 else text[:400] + b"..")
 
 
+def result_of(case):
+    """Whether a case passed (none: it was skipped), and how it differs, or why it was skipped."""
+    if "skip" in case:
+        return None, case["skip"]
+    with tempfile.TemporaryDirectory() as folder:
+        status, output, errors = run(case, pathlib.Path(folder))
+    wanted = case.get("status", 0), case.get("errors", "").encode()
+    return (status, errors) == wanted and is_wanted(case, output), (
+        f"  status {status}, wanted {wanted[0]}\n"
+        f"  output {shown(output)}\n"
+        f"  wanted {wanted_of(case)}\n"
+        f"  errors {shown(errors)}, wanted {shown(wanted[1])}\n"
+    )
+
+
+def results_of(path):
+    """Of each case of a file its name, whether it passed, and a detail."""
+    names = Counter()
+    try:
+        for kind, table in tables_of(path):
+            try:
+                cases = read_cases(kind, table)
+            except Broken as broken:
+                yield f"{path.name}: {table.get('name')}", False, f"  {broken}\n"
+                continue
+            for case in cases:
+                names[case["name"]] += 1
+                yield f"{path.name}: {case['name']}", *result_of(case)
+    except Broken as broken:
+        yield path.name, False, f"  {broken}\n"
+    for name in (name for name, count in names.items() if count > 1):
+        yield f"{path.name}: {name}", False, "  it is the name of more than one case\n"
+
+
 def case_results():
-    """Of each case its name, whether it passed, and how it differs."""
-    for path in sorted((TOP / "tests" / "cases").glob("*.toml")):
-        for case in cases_of(path):
-            with tempfile.TemporaryDirectory() as folder:
-                status, output = run(case, pathlib.Path(folder))
-            passed = status == case.get("status", 0) and is_wanted(case, output)
-            yield f"{path.name}: {case['name']}", passed, (
-                f"  status {status}, wanted {case.get('status', 0)}\n"
-                f"  output {shown(output)}\n"
-                f"  wanted {wanted_of(case)}\n"
-            )
+    """The results of all files of cases."""
+    for path in sorted(CASES.iterdir()):
+        yield from results_of(path)
 
 
-def main():
-    compare.build()
-    return 0 if compare.report(itertools.chain(case_results(), compare.comparisons())) else 1
+PARTS = {
+    "cases": case_results,
+    "compare": compare.comparisons,
+    "runner": runner.results,
+    "wrapper": wrapper.results,
+    "documents": documents.results,
+}
+
+
+def results(parts):
+    """The results of parts, over a program that is current."""
+    if older := compare.why_older():
+        yield "the program is built from the sources", False, f"  {older}\n"
+        return
+    for part in parts:
+        yield from PARTS[part]()
+
+
+def main(parts):
+    if unknown := set(parts) - PARTS.keys():
+        sys.exit(f"no parts of the tests are {sorted(unknown)}; these are: {', '.join(PARTS)}")
+    return 0 if compare.report(results(parts or PARTS)) else 1
 
 
 if __name__ == "__main__":
-    sys.exit(main())
+    sys.exit(main(sys.argv[1:]))

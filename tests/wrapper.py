@@ -1,5 +1,6 @@
-#!/usr/bin/env python3
 """Tries the wrapper `./rtime` in small repositories, with an `rt` that only tells, waits and copies.
+
+`tests/run.py wrapper` runs these tests alone.
 
 Each try has a fresh folder: `repo/`, with the wrapper, crates.txt and two crates of a file each;
 `bin/`, with the programs that the wrapper needs and the `rt` below; and `tmp/`, for its log. The
@@ -25,11 +26,13 @@ import compare
 SECONDS = 20
 TOOLS = "bash cat cp cut find flock mkdir mktemp readlink rm sleep tail touch tr wc".split()
 LINE = "line,Two,2\n"
+SIGNALS = signal.SIGINT, signal.SIGTERM, signal.SIGHUP
 WORDS = ["caps", "line.csv", "1", "36"]
 CAPS = "".join(f"{point} 12960000\n" for point in range(3))
 CRATES = ["unit_rules", "rtime"]
 
 RT = """#!/usr/bin/env bash
+cat >/dev/null
 echo "$$" >>"$TRY/calls"
 echo "rt: chose --jobs 4 for unit_rules"
 echo "statements std: modules loaded=7 checked=0"
@@ -86,8 +89,9 @@ class Try:
         """Starts the wrapper, in the repository where nothing else is said."""
         env = {"PATH": str(self.bin), "TMPDIR": str(self.tmp), "TRY": str(self.folder)}
         env |= {"SLOW": str(self.slow), "PROGRAM": str(compare.PROGRAM), **how.pop("env", {})}
-        how = {"cwd": self.repo, "stdout": subprocess.PIPE, "stderr": subprocess.PIPE} | how
-        return subprocess.Popen([wrapper, *words], env=env, **how)
+        pipes = {"stdin": subprocess.DEVNULL, "stdout": subprocess.PIPE, "stderr": subprocess.PIPE}
+        how = {"cwd": self.repo, **pipes, **how}
+        return subprocess.Popen([wrapper, *words], env=env, preexec_fn=hear_signals, **how)
 
     def call(self, *given, **how):
         """The status, the output and the lines of the error output of a call."""
@@ -110,10 +114,20 @@ class Try:
         """The files that are left in the folder for temporary ones."""
         return list(self.tmp.iterdir())
 
+    def made(self):
+        """The names of what stands in the folder of the program."""
+        return sorted(path.name for path in self.program.parent.iterdir())
+
     def is_rt_running(self):
         """Whether one of the `rt` that were called still runs."""
         numbers = (self.folder / "calls").read_text().split()
         return any(pathlib.Path(f"/proc/{number}").exists() for number in numbers)
+
+
+def hear_signals():
+    """Takes the signals as a call at a terminal does, also where the tests run behind nohup or `&`."""
+    for number in SIGNALS:
+        signal.signal(number, signal.SIG_DFL)
 
 
 def ended(process):
@@ -153,19 +167,30 @@ def quiet_call():
         return same((it.call(env={"RTIME_QUIET": "1"}), DONE), (it.calls(), 1))
 
 
+def shown_on_terminal(it, **how):
+    """The output of a call whose error output is a terminal, and what that shows."""
+    ours, theirs = pty.openpty()
+    process = it.start(stderr=theirs, **how)
+    os.close(theirs)
+    output, _ = process.communicate(timeout=SECONDS)
+    return output.decode(), read_all(ours).replace("\r\n", "\n")
+
+
 def on_terminal():
     """On a terminal the steps take each other's place in one line, which is cleared at the end."""
     with trying() as it:
-        ours, theirs = pty.openpty()
-        process = it.start(stderr=theirs)
-        os.close(theirs)
-        output, _ = process.communicate(timeout=SECONDS)
-        text = read_all(ours)
-        head, *steps = text.replace("\r\n", "\n").split("\r")
-        wanted = ["crate 1 of 2: unit_rules::read", *(step.removeprefix("rtime: ") for step in STEPS[1:]), ""]
-        found = [step.strip().removeprefix("rtime: ") for step in steps]
-        wide = [step for step in steps if len(step) > 79 or "\n" in step]
-        return same((head, STEPS[0] + "\n"), (found, [*wanted[:3], ""]), (wide, []), (output.decode(), CAPS))
+        output, text = shown_on_terminal(it)
+        head, *steps = text.split("\r")
+        found = [step.rstrip() for step in steps]
+        wide = [step for step in steps if len(step) > 78 or "\n" in step]
+        shown = ["rtime: crate 1 of 2: unit_rules::read", *STEPS[1:], ""]
+        return same((head, STEPS[0] + "\n"), (found, shown), (wide, []), (output, CAPS))
+
+
+def quiet_on_terminal():
+    """With RTIME_QUIET=1 a terminal is told nothing."""
+    with trying() as it:
+        return same((shown_on_terminal(it, env={"RTIME_QUIET": "1"}), (CAPS, "")))
 
 
 def read_all(terminal):
@@ -267,17 +292,17 @@ def without_flock():
 def interrupted():
     """Interrupted, it ends what it started, and leaves no log and no program; the next call proves."""
     for rt in (PROVES, HALF):
-        for number in (signal.SIGINT, signal.SIGTERM, signal.SIGHUP):
+        for number in SIGNALS:
             with trying(slow=SECONDS, rt=rt) as it:
                 process = it.start()
                 it.waits_for(it.program.exists if rt == HALF else it.calls)
                 process.send_signal(number)
                 status = ended(process)[0]
-                left = it.logs(), it.program.exists(), it.is_rt_running()
+                left = it.logs(), it.made(), it.is_rt_running()
                 it.slow = 0
                 it.set_rt(PROVES)
                 if difference := same(
-                    (status, -number), (left, ([], False, False)), (it.call(), (0, CAPS, STEPS))
+                    (status, -number), (left, ([], ["lock"], False)), (it.call(), (0, CAPS, STEPS))
                 ):
                     return f"  {number.name}:\n{difference}"
     return ""
@@ -324,8 +349,8 @@ def no_program():
             status, output, errors = it.call(env={"RTIME_QUIET": "1"})
             told = "crate rtime: modules loaded=7 checked=7" in errors
             left = it.logs(), it.program.exists()
-            difference = same(((status, output, errors[-1]), (70, "", line)), (told, True), (left, ([], False)))
-            if difference:
+            found = status, output, errors[-1:]
+            if difference := same((found, (70, "", [line])), (told, True), (left, ([], False))):
                 return difference
     return ""
 
@@ -336,7 +361,7 @@ def no_room():
         (it.repo / "crates" / "rtime" / "out").write_text("")
         status, output, errors = it.call()
         line = "rtime: ./crates/rtime/out can't be made: see who may write there"
-        return same(((status, output, errors[-1]), (70, "", line)), (it.calls(), 0))
+        return same(((status, output, errors[-1:]), (70, "", [line])), (it.calls(), 0))
 
 
 def input_is_kept():
@@ -358,6 +383,7 @@ TESTS = [
     first_call,
     quiet_call,
     on_terminal,
+    quiet_on_terminal,
     changed_sources,
     changed_meanwhile,
     other_files,
@@ -384,12 +410,3 @@ def results():
         except (TimeoutError, subprocess.TimeoutExpired) as error:
             difference = f"  {error}\n"
         yield f"wrapper: {test.__doc__.splitlines()[0]}", not difference, difference
-
-
-def main():
-    compare.build()
-    return 0 if compare.report(results()) else 1
-
-
-if __name__ == "__main__":
-    sys.exit(main())
