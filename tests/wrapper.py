@@ -5,7 +5,7 @@
 Each try has a fresh folder: `repo/`, with the wrapper, crates.txt and two crates of a file each;
 `bin/`, with the programs that the wrapper needs and the `rt` below; and `tmp/`, for its log. The
 `rt` writes the lines of a proving of two crates, waits SLOW seconds, copies the proved program, and
-counts its calls in `calls`.
+counts its calls in `calls`. Others leave half a program, write it late, or refuse.
 """
 
 import os
@@ -25,6 +25,7 @@ import compare
 
 SECONDS = 20
 TOOLS = "bash cat cp cut find flock mkdir mktemp readlink rm sleep tail touch tr wc".split()
+RT_TOOLS = ["chmod", "head", "setsid"]  # which only the `rt` below needs
 LINE = "line,Two,2\n"
 SIGNALS = signal.SIGINT, signal.SIGTERM, signal.SIGHUP
 WORDS = ["caps", "line.csv", "1", "36"]
@@ -43,6 +44,7 @@ echo "crate rtime: modules loaded=7 checked=7"
 """
 PROVES = RT + 'sleep "$SLOW"; cp "$PROGRAM" out/rtime; out/rtime; exit 2\n'
 HALF = RT + 'head -c 9999 "$PROGRAM" >out/rtime; chmod +x out/rtime; sleep "$SLOW"; exit 1\n'
+LATE = RT + 'setsid bash -c "sleep 0.5; cp $PROGRAM out/rtime" & sleep "$SLOW"; exit 1\n'
 REFUSES = RT + "echo 'fn rtime::main: REFUSED'; exit 1\n"
 STEPS = [
     "rtime: proving and building the program, once: this takes about ten minutes",
@@ -62,7 +64,7 @@ class Try:
         self.source = self.repo / "crates" / "unit_rules" / "src" / "lib.rt"
         for path in (self.repo, self.bin, self.tmp):
             path.mkdir()
-        for tool in [*tools, "head", "chmod"]:
+        for tool in [*tools, *RT_TOOLS]:
             (self.bin / tool).symlink_to(shutil.which(tool))
         self.lay_sources()
         self.set_rt(rt)
@@ -291,7 +293,7 @@ def without_flock():
 
 def interrupted():
     """Interrupted, it ends what it started, and leaves no log and no program; the next call proves."""
-    for rt in (PROVES, HALF):
+    for rt in (PROVES, HALF, LATE):
         for number in SIGNALS:
             with trying(slow=SECONDS, rt=rt) as it:
                 process = it.start()
