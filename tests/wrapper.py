@@ -4,8 +4,8 @@
 
 Each try has a fresh folder: `repo/`, with the wrapper, crates.txt and two crates of a file each;
 `bin/`, with the programs that the wrapper needs and the `rt` below; and `tmp/`, for its log. The
-`rt` writes the lines of a proving of two crates, waits SLOW seconds, copies the proved program, and
-counts its calls in `calls`. Others leave half a program, write it late, or refuse.
+`rt` writes the lines of a proving of two crates, waits until it is let go on, copies the proved program,
+and counts its calls in `calls`. Others leave half a program, write it late, or refuse.
 """
 
 import os
@@ -42,9 +42,10 @@ echo "crate unit_rules: modules loaded=7 checked=7"
 echo "library unit_rules: modules loaded=7 checked=0"
 echo "crate rtime: modules loaded=7 checked=7"
 """
-PROVES = RT + 'sleep "$SLOW"; cp "$PROGRAM" out/rtime; out/rtime; exit 2\n'
-HALF = RT + 'head -c 9999 "$PROGRAM" >out/rtime; chmod +x out/rtime; sleep "$SLOW"; exit 1\n'
-LATE = RT + 'setsid bash -c "sleep 0.5; cp $PROGRAM out/rtime" & sleep "$SLOW"; exit 1\n'
+WAIT = 'until [ -e "$TRY/go" ] || [ ! -d "$TRY" ]; do sleep 0.02; done\n'
+PROVES = RT + WAIT + 'cp "$PROGRAM" out/rtime; out/rtime; exit 2\n'
+HALF = RT + 'head -c 9999 "$PROGRAM" >out/rtime; chmod +x out/rtime\n' + WAIT + "exit 1\n"
+LATE = RT + 'setsid bash -c "sleep 0.5; cp $PROGRAM out/rtime" &\n' + WAIT + "exit 1\n"
 REFUSES = RT + "echo 'fn rtime::main: REFUSED'; exit 1\n"
 STEPS = [
     "rtime: proving and building the program, once: this takes about ten minutes",
@@ -57,7 +58,7 @@ WAITS = "rtime: another call is proving the program: this one waits for it"
 class Try:
     """A small repository in a fresh folder."""
 
-    def __init__(self, folder, rt=PROVES, slow=0, tools=TOOLS):
+    def __init__(self, folder, rt=PROVES, waits=False, tools=TOOLS):
         self.folder = folder
         self.repo, self.bin, self.tmp = (folder / name for name in ("repo", "bin", "tmp"))
         self.program = self.repo / "crates" / "rtime" / "out" / "rtime"
@@ -68,7 +69,8 @@ class Try:
             (self.bin / tool).symlink_to(shutil.which(tool))
         self.lay_sources()
         self.set_rt(rt)
-        self.slow = slow
+        if not waits:
+            self.go_on()
 
     def lay_sources(self):
         """Lays the wrapper, the crates and a line file."""
@@ -90,7 +92,7 @@ class Try:
     def start(self, words=WORDS, wrapper="./rtime", **how):
         """Starts the wrapper, in the repository where nothing else is said."""
         env = {"PATH": str(self.bin), "TMPDIR": str(self.tmp), "TRY": str(self.folder)}
-        env |= {"SLOW": str(self.slow), "PROGRAM": str(compare.PROGRAM), **how.pop("env", {})}
+        env |= {"PROGRAM": str(compare.PROGRAM), **how.pop("env", {})}
         pipes = {"stdin": subprocess.DEVNULL, "stdout": subprocess.PIPE, "stderr": subprocess.PIPE}
         how = {"cwd": self.repo, **pipes, **how}
         return subprocess.Popen([wrapper, *words], env=env, preexec_fn=hear_signals, **how)
@@ -98,6 +100,23 @@ class Try:
     def call(self, *given, **how):
         """The status, the output and the lines of the error output of a call."""
         return ended(self.start(*given, **how))
+
+    def start_waiting(self):
+        """Starts a call that has to wait for another one, and goes on when it says so."""
+        errors = self.folder / "errors"
+        with errors.open("wb") as file:
+            process = self.start(stderr=file)
+        self.waits_for(lambda: errors.read_text() == f"{WAITS}\n")
+        return process
+
+    def ended_waiting(self, process):
+        """The status, the output and the lines of the error output of such a call."""
+        output, _ = process.communicate(timeout=SECONDS)
+        return process.returncode, output.decode(), (self.folder / "errors").read_text().splitlines()
+
+    def go_on(self):
+        """Lets `rt` go on."""
+        (self.folder / "go").write_text("")
 
     def calls(self):
         """How often `rt` was called."""
@@ -232,10 +251,11 @@ def changed_sources():
 
 def changed_meanwhile():
     """A source that is changed while the program is built is newer than it."""
-    with trying(slow=0.5) as it:
+    with trying(waits=True) as it:
         process = it.start()
         it.waits_for(it.calls)
         it.source.write_text("x")
+        it.go_on()
         return same((ended(process)[0], 0), (it.call()[0], 0), (it.calls(), 2))
 
 
@@ -268,21 +288,25 @@ def through_links():
 
 def two_at_once():
     """Of two first calls one proves, and the other says that it waits; both answer."""
-    with trying(slow=0.5) as it:
+    with trying(waits=True) as it:
         first = it.start()
         it.waits_for(it.calls)
-        second = ended(it.start())
-        return same((second, (0, CAPS, [WAITS])), (ended(first), (0, CAPS, STEPS)), (it.calls(), 1))
+        second = it.start_waiting()
+        it.go_on()
+        found = ended(first), it.ended_waiting(second)
+        return same((found, ((0, CAPS, STEPS), (0, CAPS, [WAITS]))), (it.calls(), 1))
 
 
 def first_fails():
     """Where the call that is waited for fails, the one that waits proves."""
-    with trying(slow=0.5, rt=HALF) as it:
+    with trying(waits=True, rt=HALF) as it:
         first = it.start()
-        it.waits_for(it.calls)
-        second = it.start()
+        it.waits_for(it.program.exists)
+        second = it.start_waiting()
         it.set_rt(PROVES)
-        return same((ended(first)[0], 70), (ended(second), (0, CAPS, [WAITS, *STEPS])), (it.calls(), 2))
+        it.go_on()
+        found = ended(first)[0], it.ended_waiting(second)
+        return same((found, (70, (0, CAPS, [WAITS, *STEPS]))), (it.calls(), 2))
 
 
 def without_flock():
@@ -295,13 +319,13 @@ def interrupted():
     """Interrupted, it ends what it started, and leaves no log and no program; the next call proves."""
     for rt in (PROVES, HALF, LATE):
         for number in SIGNALS:
-            with trying(slow=SECONDS, rt=rt) as it:
+            with trying(waits=True, rt=rt) as it:
                 process = it.start()
                 it.waits_for(it.program.exists if rt == HALF else it.calls)
                 process.send_signal(number)
                 status = ended(process)[0]
                 left = it.logs(), it.made(), it.is_rt_running()
-                it.slow = 0
+                it.go_on()
                 it.set_rt(PROVES)
                 if difference := same(
                     (status, -number), (left, ([], ["lock"], False)), (it.call(), (0, CAPS, STEPS))
@@ -312,7 +336,7 @@ def interrupted():
 
 def at_the_keyboard():
     """Ctrl-C, which reaches the whole group of processes, is answered as well."""
-    with trying(slow=SECONDS, rt=HALF) as it:
+    with trying(waits=True, rt=HALF) as it:
         process = it.start(start_new_session=True)
         it.waits_for(it.program.exists)
         os.killpg(process.pid, signal.SIGINT)
@@ -322,12 +346,13 @@ def at_the_keyboard():
 
 def killed():
     """Killed while it builds, it can't take its program back; the next call doesn't run that."""
-    with trying(slow=1, rt=HALF) as it:
+    with trying(waits=True, rt=HALF) as it:
         process = it.start(stdout=subprocess.DEVNULL, stderr=subprocess.DEVNULL)
         it.waits_for(it.program.exists)
         process.kill()
         process.wait()
         it.set_rt(PROVES)
+        it.go_on()
         status, output, errors = it.call()
         return same(((status, output), (0, CAPS)), (errors[-3:], STEPS), (it.calls(), 2))
 
