@@ -83,6 +83,11 @@ class Broken(Exception):
     """A case that can't be read."""
 
 
+def is_fifo(given):
+    """Whether a file of a case is a FIFO."""
+    return not isinstance(given, str) and "fifo" in given
+
+
 def content_of(given):
     """The bytes of a file of a case."""
     if isinstance(given, str):
@@ -123,7 +128,7 @@ def is_wanted(case, output):
     """Whether an output is one that a case wants."""
     if "begins" not in case and "has" not in case:
         return output == output_of(case)
-    text = output.decode()
+    text = output.decode(errors="replace")
     lines = text.splitlines()
     left = iter(lines)
     has = text.endswith("\n") and all(line in left for line in case.get("has", []))
@@ -215,15 +220,21 @@ def cases_in(kind, table):
     return [{**given, "name": f"{table['name']}: {row}", "words": row} for row in table["rows"]]
 
 
+def try_reading(case):
+    """Reads the files and the output that a case says, as running it does."""
+    for given in case.get("files", {}).values():
+        if not is_fifo(given):
+            content_of(given)
+    wanted_of(case)
+
+
 def read_cases(kind, table):
-    """The cases of a table, read whole; one that can't be read is broken, whatever the reason."""
+    """The cases of a table; it is broken where one of them can't be read, whatever the reason."""
     try:
         cases = [checked(case) for case in cases_in(kind, table)]
         demand(cases, "it has no rows")
         for case in cases:
-            for given in case.get("files", {}).values():
-                "fifo" in given or content_of(given)
-            demand(set(case) & {"begins", "has"} or output_of(case) is not None, "")
+            try_reading(case)
         return with_files_used(cases)
     except (AttributeError, KeyError, OSError, TypeError, ValueError) as error:
         raise Broken(f"{type(error).__name__}: {error}") from error
@@ -233,7 +244,7 @@ def tables_of(path):
     """The tables of a file of cases, each with its kind."""
     try:
         tables = tomllib.loads(path.read_text())
-    except ValueError as error:
+    except (OSError, ValueError) as error:
         raise Broken(str(error)) from error
     demand(path.suffix == ".toml", "it is no file of cases")
     demand(tables.keys() <= TABLES, f"it has {sorted(tables.keys() - TABLES)}")
@@ -244,7 +255,7 @@ def tables_of(path):
 
 def lay(path, given):
     """Lays a file of a case where the program finds it."""
-    if "fifo" not in given:
+    if not is_fifo(given):
         path.write_bytes(content_of(given))
         return
     os.mkfifo(path)
@@ -297,19 +308,25 @@ def result_of(case):
     )
 
 
+def results_in(kind, table):
+    """Of each case of a table its name, whether it passed, and a detail."""
+    try:
+        cases = read_cases(kind, table)
+    except Broken as broken:
+        yield table.get("name"), False, f"  {broken}\n"
+        return
+    for case in cases:
+        yield case["name"], *result_of(case)
+
+
 def results_of(path):
-    """Of each case of a file its name, whether it passed, and a detail."""
+    """The results of a file of cases, in which each case has a name of its own."""
     names = Counter()
     try:
         for kind, table in tables_of(path):
-            try:
-                cases = read_cases(kind, table)
-            except Broken as broken:
-                yield f"{path.name}: {table.get('name')}", False, f"  {broken}\n"
-                continue
-            for case in cases:
-                names[case["name"]] += 1
-                yield f"{path.name}: {case['name']}", *result_of(case)
+            for name, *result in results_in(kind, table):
+                names[name] += 1
+                yield f"{path.name}: {name}", *result
     except Broken as broken:
         yield path.name, False, f"  {broken}\n"
     for name in (name for name, count in names.items() if count > 1):
