@@ -19,6 +19,7 @@ import documents
 PROGRAM = """#!/usr/bin/env bash
 printf '%s\\n' "$@"
 case $1 in
+cut) printf end ;;
 fails) exit 7 ;;
 warns) echo oops >&2 ;;
 hangs) sleep 100 ;;
@@ -104,6 +105,7 @@ CASES = [
     (case('spans = [[0, 2, "a"]]', words='["0 a", "1 a"]'), 0, 1, "wanted b'0 a"),
     (case('has = ["a", "c"]', words='["a", "b", "c"]'), 1, 0, ""),
     (case('has = ["c", "a"]', words='["a", "b", "c"]'), 0, 1, "wanted '' .. ['c', 'a']"),
+    (case('has = ["end"]', words='["cut"]'), 0, 1, "wanted '' .. ['end']"),
     (case('begins = "b"', words='["a", "b", "c"]'), 0, 1, "wanted 'b' .. []"),
     (case('output = "warns\\n"', words='["warns"]'), 0, 1, "errors b'oops\\n', wanted b''"),
     (case('output = "warns\\n"\nerrors = "oops\\n"', words='["warns"]'), 1, 0, ""),
