@@ -3,7 +3,8 @@
 
 The parts, all of which are run where none is named, are `cases`, those of tests/cases/; `compare`, the
 comparisons of compare.py; `runner`, broken cases that the runner has to fail (runner.py); `wrapper`, the
-calls of `./rtime` (wrapper.py); and `documents`, the commands of the documents (documents.py). It ends
+calls of `./rtime` (wrapper.py); `documents`, the commands of the documents (documents.py); and `mistakes`,
+that the manual's table of mistakes and the cases of mistakes say the same (mistakes.py). It ends
 with a line 'N passed, M failed', and before it says how many were skipped, where some were. A program
 that is older than its sources fails, and nothing is run.
 
@@ -62,6 +63,7 @@ sys.dont_write_bytecode = True  # the sources have no folder of compiled ones be
 
 import compare
 import documents
+import mistakes
 import runner
 import wrapper
 
@@ -345,6 +347,7 @@ PARTS = {
     "runner": runner.results,
     "wrapper": wrapper.results,
     "documents": documents.results,
+    "mistakes": mistakes.results,
 }
 
 
