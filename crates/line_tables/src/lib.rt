@@ -12,6 +12,7 @@ mod kinds;
 mod names;
 mod points;
 mod table;
+
 use crate::draft::Draft;
 pub use names::Name;
 use record_rules::{RecordFault, read_records};
