@@ -6,7 +6,7 @@ block of it is:
     ```console    commands with what they print. A line `$ ..` is a command, and lines `> ..` right
                   below it continue it. The lines below are all that it prints, standard error too;
                   a line `...` stands for any number of lines.
-    ```sh         a recipe, to be pasted whole. It has to end with status 0. The next block, where it
+    ```sh         a recipe, to be pasted whole. No command of it may fail. The next block, where it
     ```output     is one of this word, holds what the recipe prints; else it prints nothing.
 
 Programs that a machine may lack stand behind the word, as in `sh gnuplot`: without them the block is
@@ -120,7 +120,7 @@ def is_like(lines, wanted):
         if start is None:
             return False
         lines = lines[start + len(part) :]
-    return len(lines) >= len(last) and lines[len(lines) - len(last) :] == last
+    return lines[max(len(lines) - len(last), 0) :] == last
 
 
 def difference(command, lines, wanted):
@@ -163,7 +163,7 @@ def console_difference(block, folder, seconds):
 
 def recipe_difference(block, wanted, folder, seconds):
     """How the status or the output of a recipe differ from what the document shows."""
-    status, output = printed("\n".join(block.lines), folder, seconds)
+    status, output = printed("\n".join(["set -e", *block.lines]), folder, seconds)
     text = difference("the recipe", output.splitlines(), wanted)
     return text + (f"  status {status}, wanted 0\n" if status != 0 else "")
 
