@@ -43,7 +43,7 @@ PIPED = re.compile(r"\brtime\s(?:(?!&&)[^|;\n])*\|(?!\|)")
 
 @dataclass
 class Block:
-    """A block of a document: the word behind its fence, the programs that it needs, and its lines."""
+    """A block of a document: the word behind its fence, the programs it needs, and its lines."""
 
     line: int  # of its fence, or its first line where it is indented
     word: str
@@ -92,7 +92,7 @@ def commands_of(lines):
 
 
 def printed(script, folder, seconds):
-    """The status and the output of a script, standard error too; it is ended where it goes on too long."""
+    """The status and the output of a script, standard error too; it is ended in time."""
     pipes = {"stdin": subprocess.DEVNULL, "stdout": subprocess.PIPE, "stderr": subprocess.STDOUT}
     process = subprocess.Popen(["bash", "-c", script], cwd=folder, start_new_session=True, **pipes)
     try:
@@ -157,8 +157,10 @@ def console_difference(block, folder, seconds):
     *outputs, rest = outputs_of(commands, folder, seconds)
     if rest or len(outputs) != len(commands):
         return f"  {len(outputs)} of {len(commands)} commands came to their end\n  {rest[-400:]}\n"
-    pairs = zip(commands, outputs)
-    return "".join(difference(command, text.splitlines(), wanted) for (command, wanted), text in pairs)
+    return "".join(
+        difference(command, output.splitlines(), wanted)
+        for (command, wanted), output in zip(commands, outputs)
+    )
 
 
 def recipe_difference(block, wanted, folder, seconds):
@@ -188,7 +190,7 @@ def block_difference(block, following, *given):
 
 
 def results_of(name, text, folder, seconds=SECONDS):
-    """Of each block of a document its name, whether it passed (none: it was skipped), and a detail."""
+    """Of each block of a document its name, whether it passed (none: skipped), and a detail."""
     blocks = list(blocks_of(text))
     for before, block, following in zip([None, *blocks], blocks, [*blocks[1:], None]):
         place = f"{name}, line {block.line}"

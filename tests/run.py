@@ -70,7 +70,8 @@ import wrapper
 TOP = pathlib.Path(__file__).resolve().parent.parent
 CASES = TOP / "tests" / "cases"
 SECONDS = 60
-KEYS = {"name", "words", "files", "beside", "input", "stdout", "status", "head", "errors", "seconds", "skip"}
+KEYS = {"name", "words", "files", "beside", "input", "stdout", "status", "head", "errors"}
+KEYS |= {"seconds", "skip"}
 TABLE_KEYS = {"words", "name", "file", "rows", "files", "base", "wants"}
 TABLES = {"case", "table", "words"}
 WAYS = ({"output"}, {"spans"}, {"begins"}, {"has"}, {"begins", "has"})
@@ -161,7 +162,8 @@ def with_files_used(cases):
     for case in cases:
         files, beside = case.get("files", {}).keys(), set(case.get("beside", []))
         unnamed = {name for name in files if name not in words}
-        demand(unnamed == beside, f"no word names {sorted(unnamed)}, and {sorted(beside)} are said so")
+        said = f"no word names {sorted(unnamed)}, and {sorted(beside)} are said so"
+        demand(unnamed == beside, said)
     return cases
 
 
@@ -286,7 +288,8 @@ def run(case, folder):
     if place is None:
         return ended(words, folder, *given, subprocess.PIPE)
     to = ">&-" if place == "closed" else f">{place}"
-    status, _, errors = ended(["bash", "-c", f'exec "$@" {to}', "bash", *words], folder, *given, None)
+    shell = ["bash", "-c", f'exec "$@" {to}', "bash"]
+    status, _, errors = ended([*shell, *words], folder, *given, None)
     return status, b"", errors
 
 

@@ -82,7 +82,7 @@ CASES = [
     (table("rows = []"), 0, 1, "it has no rows"),
     (table(""), 0, 1, "KeyError: 'rows'"),
     (table('rows = [["line,A,9", "line.csv"]]'), 0, 1, "TypeError"),
-    (table('rows = [["a", "line.csv", 0], ["a", "line.csv", 0]]'), 2, 1, "the name of more than one"),
+    (table('rows = [["a", "line.csv", 0], ["a", "line.csv", 0]]'), 2, 1, "more than one case"),
     (table('rows = [["a", "line.csv", 0]]\ninput = ""'), 0, 1, "it has the keys ['input']"),
     (table('rows = [["a", "line.csv", 0]]\nwants = "has"'), 0, 1, "it wants what isn't known"),
     (table('rows = [["a", "", 0]]\nwants = "begins"'), 0, 1, "it says nothing of its output"),
@@ -110,9 +110,9 @@ CASES = [
     (case('output = "warns\\n"', words='["warns"]'), 0, 1, "errors b'oops\\n', wanted b''"),
     (case('output = "warns\\n"\nerrors = "oops\\n"', words='["warns"]'), 1, 0, ""),
     (case(RIGHT + '\nerrors = "oops\\n"'), 0, 1, "errors b'', wanted b'oops\\n'"),
-    (case('stdout = "/dev/null"\noutput = ""', words='["warns"]'), 0, 1, "errors b'oops\\n', wanted b''"),
+    (case('stdout = "/dev/null"\noutput = ""', words='["warns"]'), 0, 1, "errors b'oops\\n'"),
     (case('output = "hangs\\n"\nseconds = 1', words='["hangs"]'), 0, 1, "status ended after 1 s"),
-    (case('output = ""\nseconds = 1\nstdout = "/dev/null"', words='["hangs"]'), 0, 1, "ended after 1 s"),
+    (case('output = ""\nstdout = "/dev/null"\nseconds = 1', words='["hangs"]'), 0, 1, "after 1 s"),
     # what is skipped
     (case(RIGHT + '\nskip = "not now"'), 0, 0, "SKIPPED"),
     (case(RIGHT + '\nskip = ""'), 0, 1, "it is skipped without a reason"),
@@ -163,6 +163,7 @@ DOCUMENTS = [
     (block("sh", "./rtime a") + block("output", "a"), (1, 0, 0), ""),
     (block("sh", "./rtime a") + block("output", "b"), (0, 1, 0), "wanted ['b']"),
     (block("sh", "./rtime a"), (0, 1, 0), "printed 1 lines, wanted []"),
+    (block("sh", "./rtime a") + block("text", "a"), (0, 1, 0), "printed 1 lines, wanted []"),
     (block("sh", "./rtime fails") + block("output", "fails"), (0, 1, 0), "status 7, wanted 0"),
     (block("sh", "false", "true"), (0, 1, 0), "status 1, wanted 0"),
     (block("sh", "false || true"), (1, 0, 0), ""),
@@ -235,7 +236,8 @@ def case_results():
         of_file = [it for it in TELLS.split(found[1]) if re.match(rf"\w+ {number}\.toml\b", it)]
         count = sum(it.startswith("FAILED") for it in of_file)
         is_so = count == failed and said in "".join(of_file)
-        yield f"runner: {text}", is_so, f"  told {of_file}\n  wanted {failed} failures and {said!r}\n"
+        wanted = f"  wanted {failed} failures and {said!r}\n"
+        yield f"runner: {text}", is_so, f"  told {of_file}\n{wanted}"
 
 
 def make_older(folder):

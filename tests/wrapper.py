@@ -176,7 +176,7 @@ DONE = (0, CAPS, [])
 
 
 def first_call():
-    """The first call tells what it does, a line a crate, and later ones say nothing and don't prove."""
+    """The first call tells what it does, a line a crate; later ones say nothing and don't prove."""
     with trying() as it:
         first, later = it.call(), it.call()
         return same((first, (0, CAPS, STEPS)), (later, DONE), (it.calls(), 1), (it.logs(), []))
@@ -280,7 +280,7 @@ def through_links():
         (places / "folder").symlink_to(it.repo)
         (it.bin / "rtime").symlink_to(places / "twice")
         shutil.copy(it.repo / "line.csv", places)
-        ways = ["./whole", "./near", "./twice", "./folder/rtime", str(places / "near"), it.bin / "rtime"]
+        ways = ["./whole", "./near", "./twice", "./folder/rtime", places / "near", it.bin / "rtime"]
         found = [it.call(wrapper=way, cwd=places)[:2] for way in ways]
         by_bash = it.call(["rtime", *WORDS], wrapper=it.bin / "bash")[:2]
         return same(([*found, by_bash], [(0, CAPS)] * 7), (it.calls(), 1))
@@ -316,7 +316,7 @@ def without_flock():
 
 
 def interrupted():
-    """Interrupted, it ends what it started, and leaves no log and no program; the next call proves."""
+    """Interrupted, it ends what it started and leaves no log and no program; the next one proves."""
     for rt in (PROVES, HALF, LATE):
         for number in SIGNALS:
             with trying(waits=True, rt=rt) as it:
@@ -360,7 +360,10 @@ def killed():
 def no_rt():
     """Without `rt` the first call ends with 69 and one line; a current program needs none."""
     with trying(rt=None) as it:
-        line = "rtime: rt isn't on the path: add the folder bin of the Rattle kit to PATH, and call again"
+        line = (
+            "rtime: rt isn't on the path: "
+            "add the folder bin of the Rattle kit to PATH, and call again"
+        )
         first = it.call()
         it.set_rt(PROVES)
         it.call()
