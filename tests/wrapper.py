@@ -386,12 +386,15 @@ def no_program():
 
 
 def no_room():
-    """Where no folder can be made for the program, it ends with 70 and says so."""
+    """Where the program or the log can't be written, it ends with 70 and says so in one line."""
+    program = "rtime: nothing can be written to ./crates/rtime/out: see who may, and call again"
+    log = "rtime: no file can be made for the log: see whether $TMPDIR is full, and call again"
     with trying() as it:
-        (it.repo / "crates" / "rtime" / "out").write_text("")
-        status, output, errors = it.call()
-        line = "rtime: ./crates/rtime/out can't be made: see who may write there"
-        return same(((status, output, errors[-1:]), (70, "", [line])), (it.calls(), 0))
+        it.tmp.rmdir()
+        found = it.call(env={"RTIME_QUIET": "1"})
+        shutil.rmtree(it.program.parent)
+        it.program.parent.write_text("")
+        return same((found, (70, "", [log])), (it.call(), (70, "", [program])), (it.calls(), 0))
 
 
 def input_is_kept():
