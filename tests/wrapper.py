@@ -24,7 +24,7 @@ sys.dont_write_bytecode = True  # the sources have no folder of compiled ones be
 import compare
 
 SECONDS = 20
-TOOLS = "bash cat cp cut find flock mkdir mktemp readlink rm sleep tail touch tr wc".split()
+TOOLS = "bash cat cp cut find flock grep mkdir mktemp readlink rm sleep touch tr wc".split()
 RT_TOOLS = ["chmod", "head", "setsid"]  # which only the `rt` below needs
 LINE = "line,Two,2\n"
 SIGNALS = signal.SIGINT, signal.SIGTERM, signal.SIGHUP
