@@ -6,7 +6,7 @@ ghost use Rattle.std.specs.Prelude.{◌≡◌, ◌≢◌, ℕ, ◌+◌, ◌-◌,
 ghost use Rattle.run_rules.specs.Runs.{IsBrakingList};
 ghost use Rattle.run_rules.specs.Walks.{AgreeOutside, IsGreatestAt, IsGreatestNumber, IsOwnBrakingList};
 ghost use Rattle.limit_profile.specs.Levels.{IsLevel};
-ghost use Rattle.limit_profile.specs.Profile.{caps};
+ghost use Rattle.limit_profile.specs.Profile.{Profile, caps};
 ghost use Rattle.step_rule.specs.Motion.{cells_of, kmh_of, most_of, step_rule_of};
 
 #[cfg(test)]
@@ -32,8 +32,7 @@ pub fn walk_back<L: Ledger>(
     requires same_length { limits.now.length ≡ cells_of rule.now }
     requires same_top { limits.now.top ≡ kmh_of rule.now }
     requires points { length c.old ≡ limits.now.length + 1 }
-    requires ordered { from ≤ to }
-    requires on_line { to ≤ limits.now.length }
+    requires stretch { (from ≤ to) × (to ≤ limits.now.length) }
     requires past { (i : ℕ) → to < i → i ≤ limits.now.length
         → IsGreatestAt (step_rule_of rule.now) (caps limits.now) c.old i }
     requires before { (i : ℕ) → i < from
@@ -47,10 +46,7 @@ pub fn walk_back<L: Ledger>(
     ensures cost { steps.new ≤ steps.old + 33 * (to + 2 - result) }
     ensures end_cost { to ≡ limits.now.length → steps.new ≤ steps.old + 33 * (to + 1 - result) }
 {
-    let mut hints = Hints {
-        level: Level::empty(),
-        near: 0,
-    };
+    let mut hints = Hints::new();
     for point in (from as usize..to as usize + 1).rev() {
         c[point] = number_at(rule, limits, point as u32, c, &mut hints, steps);
     }
@@ -72,6 +68,18 @@ pub fn walk_back<L: Ledger>(
 struct Hints {
     level: Level,
     near: u32,
+}
+
+impl Hints {
+    // Those that tell nothing.
+    fn new() -> Hints
+        ensures { (p : Profile) → IsLevel p result.level }
+    {
+        Hints {
+            level: Level::empty(),
+            near: 0,
+        }
+    }
 }
 
 // The greatest number at a point from which the train can brake to what is next in `c`.

@@ -4,7 +4,3 @@ use Rattle.std.proofs.Common.{Result, Ok, Err, OnErr}
 pub OnErr-always : {T E P : Type 0} (r : Result T E) → P → OnErr r P
 OnErr-always (Ok x) p = tt
 OnErr-always (Err e) p = p
-
-pub OnErr-along : {T E P Q : Type 0} (r : Result T E) → (P → Q) → OnErr r P → OnErr r Q
-OnErr-along (Ok x) f h = tt
-OnErr-along (Err e) f h = f h

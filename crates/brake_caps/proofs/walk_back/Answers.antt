@@ -12,7 +12,7 @@ loop-point-init g c =
     let long = length-caps c.args.limits.now in
     record {
       least = omega arith;
-      level = c.empty.ensures c.args.limits.now;
+      level = c.new-hints.ensures c.args.limits.now;
       right = λ i h l. c.requires.past i (omega arith) (omega arith);
       agree = record { same_points = refl; agrees = λ i h. refl };
       points = c.requires.points;
