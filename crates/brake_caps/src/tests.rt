@@ -2,7 +2,7 @@
 //! squared speed at each metre.
 
 ghost use Rattle.std.specs.Prelude.{◌≡◌, ◌^◌, pos, ◌≤ℤ◌, length, replicate, IfOk};
-ghost use Rattle.run_rules.specs.Steps.{IsPull};
+ghost use Rattle.run_rules.specs.StepRules.{IsPull};
 ghost use Rattle.step_rule.specs.Motion.{cells_of, kmh_of};
 
 use super::*;

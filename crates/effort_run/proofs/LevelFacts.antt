@@ -3,7 +3,7 @@ use Rattle.std.proofs.Common.{◌≡◌, ℕ, ◌+◌, ◌<◌, ◌≤◌, ℤ, 
 use Rattle.std.proofs.lemmas.Int.{ints}
 use Rattle.run_rules.specs.Grids.{row, top_of}
 use Rattle.run_rules.specs.Runs.{IsBrakingList}
-use Rattle.run_rules.specs.Steps.{low_from}
+use Rattle.run_rules.specs.StepRules.{low_from}
 use Rattle.table_laws.proofs.ToyFacts.{row-toy, squared-toy, top_of-toy}
 use Rattle.step_rule.specs.Motion.{Motion, step_rule_of}
 use Rattle.step_rule.proofs.BrakeFacts.{fall_from-slowed}

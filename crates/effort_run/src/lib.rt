@@ -3,11 +3,11 @@
 #![tactic(auto)]
 
 ghost use Rattle.std.specs.Prelude.{◌≡◌, ℕ, ◌+◌, ◌<◌, ◌≤◌, pos, ◌≤ℤ◌, ◌↔◌, List, length, slice_index, IfNone, IfSome, IsTrue, Some};
-ghost use Rattle.run_rules.specs.Drives.{AgreeAt, EnvelopesAgreeAfter, EnvelopesAgreeBefore, HoldsEnvelope, IsOnlyReach, ReachesUnderCaps, reach_of};
+ghost use Rattle.run_rules.specs.Drives.{EnvelopesAgreeAfter, EnvelopesAgreeBefore, HoldsEnvelope, IsOnlyReach, ReachesUnderCaps, reach_of};
 ghost use Rattle.run_rules.specs.Runs.{ReachesAs};
-ghost use Rattle.run_rules.specs.Walks.{AgreeOutside, EndsAt, IsBlockedAfter, IsNextNumber, IsOwnBrakingList, count_of, known_at};
+ghost use Rattle.run_rules.specs.Walks.{AgreeOutside, EndsAt, IsBlocked, IsBlockedAfter, IsNext, IsNextNumber, IsOwnBrakingList, count_of};
+ghost use Rattle.unit_rules.specs.Known.{AgreeAt, known_at};
 ghost use Rattle.step_rule.specs.Motion.{cells_of, most_of, step_rule_of};
-ghost use Rattle.effort_run.specs.Next.{IsNext};
 
 use std::sync::ledger::Ledger;
 use step_rule::Rule;
@@ -165,7 +165,7 @@ fn number_after<L: Ledger>(
 // The greatest squared speed that `cap` and `up` allow, unless it is a standstill after another.
 fn next_speed(now: u32, up: i64, cap: u32) -> Option<u32>
     ensures next { IfSome result (λ w. IsNext now up cap w) }
-    ensures none { IfNone result ((u : ℕ) → u ≤ cap → pos u ≤ℤ up → u + now < 1) }
+    ensures none { IfNone result (IsBlocked now up cap) }
 {
     let most = up.min(i64::from(cap));
     if most < 0 || now == 0 && most == 0 {

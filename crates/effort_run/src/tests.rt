@@ -3,7 +3,7 @@
 
 ghost use Rattle.std.specs.Prelude.{◌≡◌, ◌+◌, ◌^◌, ◌<◌, ◌≤◌, ℕ, pos, ◌≤ℤ◌, length, replicate, slice_index, IfOk};
 ghost use Rattle.std.specs.Bool.{OnTrue};
-ghost use Rattle.run_rules.specs.Steps.{IsPull};
+ghost use Rattle.run_rules.specs.StepRules.{IsPull};
 ghost use Rattle.step_rule.specs.Motion.{cells_of, kmh_of};
 
 use super::*;

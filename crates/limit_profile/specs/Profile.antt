@@ -1,5 +1,6 @@
 -- What contracts see of the limits of a train on a line.
 use Rattle.std.specs.Prelude.{◌≡◌, ℕ, ◌+◌, ◌≤◌, List, ◌∷◌, ◌++◌, All}
+use Rattle.unit_rules.specs.Limits.{greatest_speed, longest_line, longest_train}
 use Rattle.unit_rules.specs.Zone.{LiesOn}
 use Rattle.unit_rules.specs.declared.Bound.{Bound}
 use Rattle.unit_rules.specs.declared.Zone.{Zone}
@@ -22,11 +23,11 @@ profile_of length train top zones bounds = record { length = length; train = tra
 -- the numbers are in range, and zones and bounds lie on the line
 pub record IsProfile (p : Profile) : Type 0 where
   pub length_least : 2 ≤ p.length
-  pub length_most : p.length ≤ 500000
+  pub length_most : p.length ≤ longest_line
   pub train_least : 1 ≤ p.train
-  pub train_most : p.train ≤ 5000
+  pub train_most : p.train ≤ longest_train
   pub top_least : 1 ≤ p.top
-  pub top_most : p.top ≤ 500
+  pub top_most : p.top ≤ greatest_speed
   pub zones_lie : All (LiesOn p.length) p.zones
   pub bounds_lie : All (λ b. b.at ≤ p.length) p.bounds
 

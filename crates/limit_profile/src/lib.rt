@@ -174,7 +174,7 @@ impl Limits {
         requires { Contains self.old.zones zone }
         ensures { IsFreed zone self.old self.new }
     {
-        let index = place_of(&self.zones, zone);
+        let index = index_of(&self.zones, zone);
         self.zones.remove(index);
         self.spare += 1;
         list_changed(
@@ -304,7 +304,7 @@ fn grow(breaks: &mut Vec<Break>, room: usize) -> Result<(), Memory>
 }
 
 // Where the first of the zones that are equal to a zone stands.
-fn place_of(zones: &[Zone], zone: Zone) -> usize
+fn index_of(zones: &[Zone], zone: Zone) -> usize
     requires { Contains zones.now zone }
     ensures bound { result < length zones.now }
     ensures zone { (d : Zone) → slice_index_or zones.now result d ≡ zone }

@@ -4,12 +4,13 @@ use Rattle.std.proofs.lemmas.Bool.{cases_lt}
 use Rattle.std.proofs.lemmas.Bool.Decides.{nat_tests}
 use Rattle.unit_rules.specs.declared.Reach.{Reach}
 use Rattle.unit_rules.specs.declared.Reach.TheVariants.{Whole, Stalled}
-use Rattle.run_rules.specs.Drives.{AgreeAt, EnvelopesAgreeAfter, EnvelopesAgreeBefore, HoldsEnvelope}
+use Rattle.run_rules.specs.Drives.{EnvelopesAgreeAfter, EnvelopesAgreeBefore, HoldsEnvelope}
 use Rattle.run_rules.specs.Runs.{IsEnvelopeTo, IsMonotone, IsStalled, ReachesAs, StepRule}
-use Rattle.run_rules.specs.Walks.{AgreeOutside, EndsAt, count_of, known_at}
+use Rattle.run_rules.specs.Walks.{AgreeOutside, EndsAt, count_of}
+use Rattle.unit_rules.specs.Known.{AgreeAt, known_at}
+use Rattle.unit_rules.proofs.KnownFacts.{AgreeAt-number, known_at-known}
 use Rattle.run_rules.proofs.DrivingFacts.{IsDrivable, IsDrivable-braking_list, IsNextNumber-same}
 use Rattle.run_rules.proofs.EnvelopeFacts.{EndsAt-envelope}
-use Rattle.run_rules.proofs.ResumeFacts.{known_at-some}
 
 EndsAt-reaches : (rule : StepRule) (cells : ℕ) (c e : List ℕ) (reach : Reach) → IsDrivable rule c → length c ≡ cells + 1 → length e ≡ length c → ReachesAs rule c e reach → EndsAt rule c e (count_of (length c) reach)
 EndsAt-reaches rule cells c e Whole line points same run =
@@ -27,9 +28,6 @@ EndsAt-holds rule cells top c e n mono holds =
     let line = IsDrivable-braking_list rule cells top c mono holds.brakes in
     subst (λ k. EndsAt rule c e k) holds.reaches.2 (EndsAt-reaches rule cells c e holds.reaches.0 line holds.brakes.points holds.same_points holds.reaches.1)
 
-known_at-known : (e : List ℕ) (n i : ℕ) → i < n → known_at e n i ≡ Some (slice_index e i)
-known_at-known e n i l = grind (arith, nat_tests)
-
 known_at-missing : (e : List ℕ) (n i : ℕ) → n ≤ i → known_at e n i ≡ None
 known_at-missing e n i l = grind (arith, nat_tests)
 
@@ -39,10 +37,6 @@ AgreeAt-missing d e n m i h l = known_at-missing d n i h ∙ sym (known_at-missi
 
 AgreeAt-known : (d e : List ℕ) (n m i : ℕ) → i < n → i < m → slice_index d i ≡ slice_index e i → AgreeAt d n e m i
 AgreeAt-known d e n m i h l same = known_at-known d n i h ∙ ap (λ w. Some w) same ∙ sym (known_at-known e m i l)
-
--- a number that is known in one list is the same in the other
-AgreeAt-number : (d e : List ℕ) (n m i : ℕ) → AgreeAt d n e m i → i < n → (i < m) × (slice_index e i ≡ slice_index d i)
-AgreeAt-number d e n m i agree l = known_at-some e m i (slice_index d i) (sym agree ∙ known_at-known d n i l)
 
 -- from the same number and the same cap comes the same next number
 next_number-same : (rule : StepRule) (b c d e : List ℕ) (n m i : ℕ) → length b ≡ length c → EndsAt rule b d n → EndsAt rule c e m → slice_index b (i + 1) ≡ slice_index c (i + 1)

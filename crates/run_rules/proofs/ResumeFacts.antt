@@ -1,10 +1,8 @@
 -- A walk on that begins again inside a line, where the caps before `from` and past `to` are those of an older walk.
-use Rattle.std.proofs.Common.{◌≡◌, ℕ, ◌+◌, ◌<◌, ◌≤◌, List, slice_index, inl, inr, ap, arith, sym, Some, None}
+use Rattle.std.proofs.Common.{◌≡◌, ℕ, ◌+◌, ◌<◌, ◌≤◌, List, slice_index, inl, inr, arith, sym}
 use Rattle.std.proofs.lemmas.Bool.{cases_lt}
-use Rattle.std.proofs.lemmas.Bool.Decides.{nat_tests}
-use Rattle.std.specs.Prelude.{if◌then◌else◌, nat_lt}
 use Rattle.run_rules.specs.Runs.{StepRule}
-use Rattle.run_rules.specs.Walks.{AgreeOutside, EndsAt, known_at}
+use Rattle.run_rules.specs.Walks.{AgreeOutside, EndsAt}
 use Rattle.run_rules.proofs.DrivingFacts.{IsBlockedAfter-same, IsDriven, IsNextNumber-same}
 
 -- past the change, from a number on that is as before, all numbers are as before
@@ -20,9 +18,3 @@ EndsAt-resumed rule b c d e from to n i agree ends past known driven same = reco
   ];
   blocked = λ j last h. IsBlockedAfter-same rule b c d e j (agree.agrees (j + 1) (inr (omega arith))) (sym (same j (omega arith))) (ends.blocked j last (let long = agree.same_points in omega arith));
 }
-
-pub known_at-some : (e : List ℕ) (n i w : ℕ) → known_at e n i ≡ Some w → (i < n) × (slice_index e i ≡ w)
-known_at-some e n i w h = grind (arith, nat_tests)
-
-pub known_at-same : (d e : List ℕ) (n i : ℕ) → slice_index d i ≡ slice_index e i → known_at d n i ≡ known_at e n i
-known_at-same d e n i h = ap (λ w. if nat_lt i n then Some w else None) h

@@ -1,9 +1,10 @@
 -- How far the walk on says that a train gets, and where two envelopes agree.
 use Rattle.std.specs.Prelude.{◌≡◌, ℕ, ◌<◌, ◌≤◌, List, length, if◌then◌else◌, nat_lt}
+use Rattle.unit_rules.specs.Known.{AgreeAt}
 use Rattle.unit_rules.specs.declared.Reach.{Reach}
 use Rattle.unit_rules.specs.declared.Reach.TheVariants.{Whole, Stalled}
 use Rattle.run_rules.specs.Runs.{IsBrakingList, IsMonotone, IsRun, IsStalled, ReachesAs, StepRule}
-use Rattle.run_rules.specs.Walks.{AgreeOutside, IsOwnBrakingList, count_of, known_at}
+use Rattle.run_rules.specs.Walks.{AgreeOutside, IsOwnBrakingList, count_of}
 
 -- the reach of an envelope with so many numbers, on a line of so many points
 abbrev pub reach_of : ℕ → ℕ → Reach
@@ -24,10 +25,6 @@ pub record HoldsEnvelope (rule : StepRule) (cells top : ℕ) (c e : List ℕ) (n
   pub brakes : IsOwnBrakingList rule cells top c
   pub same_points : length e ≡ length c
   pub reaches : (reach : Reach) × ReachesAs rule c e reach × (count_of (length c) reach ≡ n)
-
--- two lists have the same number at point i, or none
-abbrev pub AgreeAt : List ℕ → ℕ → List ℕ → ℕ → ℕ → Type 0
-AgreeAt d n e m i = known_at d n i ≡ known_at e m i
 
 -- where braking lists agree outside from..=to, the envelopes under them agree before `from`
 abbrev pub EnvelopesAgreeBefore : Type 0

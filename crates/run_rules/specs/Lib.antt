@@ -4,5 +4,5 @@ pub mod Grids
 pub mod Laws
 pub mod Runs
 pub mod Speeds
-pub mod Steps
+pub mod StepRules
 pub mod Walks

@@ -1,6 +1,6 @@
 -- What the walk back, which makes a braking list, and the walk on, which makes an envelope, say of one point at a time.
 -- A walk that begins again inside a line says with these words which of the older numbers stand.
-use Rattle.std.specs.Prelude.{◌≡◌, ℕ, ◌+◌, ◌<◌, ◌≤◌, pos, ◌≤ℤ◌, ◌⊎◌, List, length, slice_index, Option, Some, None, if◌then◌else◌, nat_lt}
+use Rattle.std.specs.Prelude.{◌≡◌, ℕ, ◌+◌, ◌<◌, ◌≤◌, ℤ, pos, ◌≤ℤ◌, ◌⊎◌, List, length, slice_index}
 use Rattle.unit_rules.specs.declared.Reach.{Reach}
 use Rattle.unit_rules.specs.declared.Reach.TheVariants.{Whole, Stalled}
 use Rattle.run_rules.specs.Runs.{IsBrakingList, StepRule}
@@ -28,18 +28,24 @@ pub record IsGreatestNumber (rule : StepRule) (x c : List ℕ) (i u : ℕ) : Typ
 abbrev pub IsGreatestAt : StepRule → List ℕ → List ℕ → ℕ → Type 0
 IsGreatestAt rule x c i = IsGreatestNumber rule x c i (slice_index c i)
 
--- w is the greatest number after cell i that the caps c and full effort from what e has at point i allow, and not a
--- second standstill
-pub record IsNextNumber (rule : StepRule) (c e : List ℕ) (i w : ℕ) : Type 0 where
-  pub capped : w ≤ slice_index c (i + 1)
-  pub driven : pos w ≤ℤ rule.up i (slice_index e i)
-  pub moving : 1 ≤ slice_index e i + w
-  pub greatest : (u : ℕ) → u ≤ slice_index c (i + 1) → pos u ≤ℤ rule.up i (slice_index e i) → u ≤ w
+-- w is the greatest number up to the cap and to what full effort gives, and not a standstill after another
+pub record IsNext (now : ℕ) (up : ℤ) (cap w : ℕ) : Type 0 where
+  pub capped : w ≤ cap
+  pub driven : pos w ≤ℤ up
+  pub moving : 1 ≤ now + w
+  pub greatest : (u : ℕ) → u ≤ cap → pos u ≤ℤ up → u ≤ w
 
--- there is no such number: each that the caps and full effort allow would be a second standstill
+-- there is no such number: each that the cap and full effort allow would be a second standstill
+abbrev pub IsBlocked : ℕ → ℤ → ℕ → Type 0
+IsBlocked now up cap = (u : ℕ) → u ≤ cap → pos u ≤ℤ up → u + now < 1
+
+-- w is that number after cell i, under the caps c and after what e has at point i
+abbrev pub IsNextNumber : StepRule → List ℕ → List ℕ → ℕ → ℕ → Type 0
+IsNextNumber rule c e i w = IsNext (slice_index e i) (rule.up i (slice_index e i)) (slice_index c (i + 1)) w
+
+-- there is no such number after cell i
 abbrev pub IsBlockedAfter : StepRule → List ℕ → List ℕ → ℕ → Type 0
-IsBlockedAfter rule c e i =
-    (u : ℕ) → u ≤ slice_index c (i + 1) → pos u ≤ℤ rule.up i (slice_index e i) → u + slice_index e i < 1
+IsBlockedAfter rule c e i = IsBlocked (slice_index e i) (rule.up i (slice_index e i)) (slice_index c (i + 1))
 
 -- the first n numbers of e are driven as fast as the caps c allow, to the end of the line or to where there is no next
 pub record EndsAt (rule : StepRule) (c e : List ℕ) (n : ℕ) : Type 0 where
@@ -48,10 +54,6 @@ pub record EndsAt (rule : StepRule) (c e : List ℕ) (n : ℕ) : Type 0 where
   pub first : slice_index e 0 ≡ slice_index c 0
   pub each : (i : ℕ) → i + 1 < n → IsNextNumber rule c e i (slice_index e (i + 1))
   pub blocked : (i : ℕ) → i + 1 ≡ n → n < length c → IsBlockedAfter rule c e i
-
--- the number of e at point i, where its first n are known
-abbrev pub known_at : List ℕ → ℕ → ℕ → Option ℕ
-known_at e n i = if nat_lt i n then Some (slice_index e i) else None
 
 -- how many numbers the envelope has on a line of so many points
 abbrev pub count_of : ℕ → Reach → ℕ

@@ -3,12 +3,13 @@
 #![tactic(auto)]
 
 ghost use Rattle.std.specs.Prelude.{◌≡◌, ◌≤◌};
+ghost use Rattle.unit_rules.specs.Limits.{greatest_speed};
 ghost use Rattle.run_rules.specs.Laws.{BrakesAlikeBelow, BrakesAlikePast, GreaterKeeps, RunsOrStalls, StallsOnce, StandingBrakes};
 ghost use Rattle.run_rules.specs.Speeds.{squared};
 
 /// The square of a speed of `kmh` km/h, in (0.01 km/h)².
 pub fn squared(kmh: u32) -> u32
-    requires { kmh ≤ 500 }
+    requires { kmh ≤ greatest_speed }
     ensures { result ≡ squared kmh }
 {
     10_000 * (kmh * kmh)

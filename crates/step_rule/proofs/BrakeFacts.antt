@@ -7,7 +7,7 @@ use Rattle.unit_rules.specs.Quotients.{floor_div}
 use Rattle.unit_rules.proofs.FloorFacts.{floor_div-at_most, floor_div-floor, floor_div-product}
 use Rattle.run_rules.specs.Grids.{row, top_of, band_width}
 use Rattle.run_rules.specs.Speeds.{squared}
-use Rattle.run_rules.specs.Steps.{fall_from}
+use Rattle.run_rules.specs.StepRules.{fall_from}
 use Rattle.run_rules.proofs.GridFacts.{value_at-band, value_at-least, value_at-squared}
 use Rattle.run_rules.proofs.SpeedFacts.{band_width-some, squared-mono, squared-next}
 use Rattle.step_rule.specs.Motion.{IsMotion, Motion, kmh_of, most_of}

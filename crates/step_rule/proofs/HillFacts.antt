@@ -4,7 +4,7 @@ use Rattle.std.proofs.lemmas.Bool.{cases_lt}
 use Rattle.std.proofs.lemmas.Int.{ints, clamps}
 use Rattle.unit_rules.proofs.FloorFacts.{floor_div-at_most, floor_div-mono, floor_div-zero}
 use Rattle.run_rules.specs.Grids.{row, value_at}
-use Rattle.run_rules.specs.Steps.{fall_from, low_from, up_from}
+use Rattle.run_rules.specs.StepRules.{fall_from, low_from, up_from}
 use Rattle.step_rule.specs.Hills.{IsGentle, IsHeld}
 use Rattle.step_rule.specs.Motion.{IsMotion, Motion, most_of, step_rule_of}
 use Rattle.step_rule.specs.Spans.{IsBrakedFrom}

@@ -5,7 +5,7 @@ use Rattle.unit_rules.proofs.FloorFacts.{floor_div-at_most}
 use Rattle.run_rules.specs.Grids.{row, top_of, value_at}
 use Rattle.run_rules.specs.Runs.{IsMonotone}
 use Rattle.run_rules.specs.Speeds.{squared}
-use Rattle.run_rules.specs.Steps.{fall_from, low_from, up_from}
+use Rattle.run_rules.specs.StepRules.{fall_from, low_from, up_from}
 use Rattle.run_rules.proofs.GridFacts.{value_at-zero}
 use Rattle.table_laws.specs.Laws.{KeepsLaw, moves_within}
 use Rattle.table_laws.specs.declared.Law.TheVariants.{Climb, Drop}

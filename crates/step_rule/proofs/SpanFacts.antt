@@ -5,7 +5,7 @@ use Rattle.std.proofs.lemmas.Int.{ints}
 use Rattle.std.proofs.Math.Nat.{pow-le-pow_right}
 use Rattle.run_rules.specs.Grids.{row}
 use Rattle.run_rules.specs.Runs.{IsMonotone, StepRule}
-use Rattle.run_rules.specs.Steps.{fall_from}
+use Rattle.run_rules.specs.StepRules.{fall_from}
 use Rattle.run_rules.proofs.SpeedFacts.{squared-500, squared-mono}
 use Rattle.step_rule.specs.Motion.{IsMotion, Motion, kmh_of, most_of, step_rule_of}
 use Rattle.step_rule.specs.Spans.{IsBrakedFrom, IsSpan}

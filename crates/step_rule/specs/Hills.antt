@@ -1,6 +1,6 @@
 -- Hills that a train's push and its brakes make up for, by the pull of the gradient.
 use Rattle.std.specs.Prelude.{ℕ, ◌≤◌, ℤ, pos, ◌≤ℤ◌}
-use Rattle.run_rules.specs.Steps.{fall_from, up_from}
+use Rattle.run_rules.specs.StepRules.{fall_from, up_from}
 use Rattle.step_rule.specs.Motion.{IsMotion, Motion, most_of}
 
 -- at full effort a train loses no speed under the pull, from whichever squared speed

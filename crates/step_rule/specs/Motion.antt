@@ -1,9 +1,10 @@
 -- What contracts see of the step rule of a train on a line.
 use Rattle.std.specs.Prelude.{◌≡◌, ℕ, ◌≤◌, ℤ, pos, ◌≤ℤ◌, List, All, length}
+use Rattle.unit_rules.specs.Limits.{longest_line}
 use Rattle.run_rules.specs.Grids.{row, top_of}
 use Rattle.run_rules.specs.Runs.{StepRule}
 use Rattle.run_rules.specs.Speeds.{squared}
-use Rattle.run_rules.specs.Steps.{IsPull, rule_of}
+use Rattle.run_rules.specs.StepRules.{IsPull, rule_of}
 use Rattle.table_laws.specs.Laws.{BandTable, IsLawful}
 use Rattle.table_laws.specs.declared.Law.TheVariants.{Climb, Drop}
 
@@ -24,7 +25,7 @@ pub record IsMotion (motion : Motion) : Type 0 where
   pub brakes : (k : ℕ) → k ≤ top_of motion.brake.rows → pos 12960 ≤ℤ row motion.brake.rows k
   pub moved_least : 1 ≤ motion.moved
   pub cells_least : 2 ≤ length motion.pulls
-  pub cells_most : length motion.pulls ≤ 500000
+  pub cells_most : length motion.pulls ≤ longest_line
   pub pulls_small : All IsPull motion.pulls
 
 -- how many cells the line has

@@ -1,7 +1,7 @@
 -- The search for the greatest squared speed from which a cell can end at some squared speed or below.
 use Rattle.std.specs.Prelude.{ℕ, ◌+◌, ◌<◌, ◌≤◌, pos, ◌≤ℤ◌, ◌<ℤ◌}
 use Rattle.run_rules.specs.Runs.{StepRule}
-use Rattle.run_rules.specs.Steps.{fall_from}
+use Rattle.run_rules.specs.StepRules.{fall_from}
 use Rattle.step_rule.specs.Motion.{Motion, most_of}
 
 -- from squared speed `at` the cell can end at w or below, and from the greater `past` it can't

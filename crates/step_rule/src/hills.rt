@@ -1,6 +1,7 @@
 //! Hills that a train's push and its brakes make up for, told by the pull of a cell alone.
 
 ghost use Rattle.std.specs.Prelude.{◌≡◌, ◌*◌, ◌^◌, ◌<◌, ◌≤◌, pos, neg_ℤ, ◌+ℤ◌, ◌≤ℤ◌, IsTrue};
+ghost use Rattle.unit_rules.specs.Limits.{greatest_value};
 ghost use Rattle.run_rules.specs.Grids.{row};
 ghost use Rattle.step_rule.specs.Hills.{IsGentle, IsHeld};
 ghost use Rattle.step_rule.specs.Motion.{IsMotion, cells_of};
@@ -31,8 +32,8 @@ impl Rule {
 /// The pull that a push of `push` and brakes that take `rate` from the squared speed of the moved
 /// mass make up for together.
 pub(crate) fn gentle_pull(push: i64, rate: u32, moved: u32) -> i64
-    requires push_most { push ≤ℤ pos (10 ^ 15) }
-    requires push_least { neg_ℤ (pos (10 ^ 15)) ≤ℤ push }
+    requires push_most { push ≤ℤ pos greatest_value }
+    requires push_least { neg_ℤ (pos greatest_value) ≤ℤ push }
     requires rate_most { rate ≤ 1000000 }
     ensures { result ≡ push +ℤ pos (moved * rate) }
 {

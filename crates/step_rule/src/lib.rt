@@ -4,10 +4,11 @@
 #![tactic(auto)]
 
 ghost use Rattle.std.specs.Prelude.{◌≡◌, ℕ, ◌+◌, ◌^◌, ◌<◌, ◌≤◌, pos, neg_ℤ, ◌+ℤ◌, ◌-ℤ◌, ◌≤ℤ◌, All, vec_len};
+ghost use Rattle.unit_rules.specs.Limits.{greatest_value};
 ghost use Rattle.unit_rules.specs.Quotients.{floor_div};
 ghost use Rattle.run_rules.specs.Grids.{row, top_of};
 ghost use Rattle.run_rules.specs.Runs.{IsMonotone};
-ghost use Rattle.run_rules.specs.Steps.{IsPull, fall_from};
+ghost use Rattle.run_rules.specs.StepRules.{IsPull, fall_from};
 ghost use Rattle.step_rule.specs.Motion.{IsMotion, cells_of, kmh_of, most_of, step_rule_of};
 
 mod hills;
@@ -139,7 +140,7 @@ impl Rule {
 
     /// The least squared speed after cell `cell` from squared speed `u` before it: under full
     /// brakes, or at full effort where a hill slows the train more.
-    #[tactic(auto, unfolding(run_rules::specs::Steps::low_from))]
+    #[tactic(auto, unfolding(run_rules::specs::StepRules::low_from))]
     pub fn low<L: Ledger>(&self, cell: u32, u: u32, steps: &mut Steps<L>) -> i64
         requires cell { cell < cells_of self.now }
         requires in_range { u ≤ most_of self.now }
@@ -164,8 +165,8 @@ impl Rule {
 
 // The squared speed `u` and what push less pull adds to it, by the moved mass.
 fn pushed(u: u32, push: i64, pull: i64, moved: &Divisor) -> i64
-    requires push_most { push ≤ℤ pos (10 ^ 15) }
-    requires push_least { neg_ℤ (pos (10 ^ 15)) ≤ℤ push }
+    requires push_most { push ≤ℤ pos greatest_value }
+    requires push_least { neg_ℤ (pos greatest_value) ≤ℤ push }
     requires pull { IsPull pull }
     ensures { result ≡ pos u +ℤ floor_div (push -ℤ pull) moved.now }
 {

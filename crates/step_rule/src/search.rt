@@ -6,7 +6,7 @@
 
 ghost use Rattle.std.specs.Prelude.{◌≡◌, ℕ, ◌+◌, ◌*◌, ◌/◌, ◌^◌, ◌<◌, ◌≤◌, ◌⊎◌, pos, ◌≤ℤ◌, ◌<ℤ◌};
 ghost use Rattle.run_rules.specs.Speeds.{squared};
-ghost use Rattle.run_rules.specs.Steps.{fall_from};
+ghost use Rattle.run_rules.specs.StepRules.{fall_from};
 ghost use Rattle.step_rule.specs.Motion.{IsMotion, cells_of, kmh_of, most_of, step_rule_of};
 ghost use Rattle.step_rule.specs.Spans.{IsBrakedFrom, IsSpan};
 
@@ -210,7 +210,7 @@ impl Rule {
         let here = self.fall_at_kmh(kmh);
         let gap = i64::from(w).abs_diff(here);
         let rise = self.fall_at_kmh(kmh + 1).abs_diff(here);
-        part_of(gap, rise, 10_000 * (2 * kmh + 1))
+        parts_within(gap, rise, 10_000 * (2 * kmh + 1))
     }
 
     // The greatest whole number of km/h from which full brakes end a cell at `w` or below.
@@ -246,7 +246,7 @@ impl Rule {
 
 // How many of the `all` equal parts of a rise are at most `gap`. Where the brakes take the same at both
 // ends of a band, they are parts of 1.
-fn part_of(gap: u64, rise: u64, all: u32) -> u32
+fn parts_within(gap: u64, rise: u64, all: u32) -> u32
     requires below { gap < rise }
     requires few { all ≤ 10010000 }
     ensures { result ≡ gap * all / rise }

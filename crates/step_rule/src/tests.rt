@@ -1,7 +1,7 @@
 //! What the definitions mean in numbers, for a toy train of 259200 kg with brakes of 25920.
 
 ghost use Rattle.std.specs.Prelude.{◌≡◌, ◌^◌, ◌<◌, ◌≤◌, pos, neg_ℤ, ◌≤ℤ◌, IfOk};
-ghost use Rattle.run_rules.specs.Steps.{IsPull};
+ghost use Rattle.run_rules.specs.StepRules.{IsPull};
 ghost use Rattle.table_laws.proofs.ToyFacts.{toy_rows};
 ghost use Rattle.step_rule.specs.Motion.{cells_of, kmh_of};
 

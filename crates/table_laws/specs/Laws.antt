@@ -1,5 +1,6 @@
 -- How fast the values of a table may change from one speed to the next.
 use Rattle.std.specs.Prelude.{◌≡◌, ℕ, ◌*◌, ◌+◌, ◌^◌, ◌≤◌, ◌<◌, Bool, IsTrue, IsFalse, ℤ, pos, neg_ℤ, ◌-ℤ◌, ◌≤ℤ◌, int_le, List, length}
+use Rattle.unit_rules.specs.Limits.{greatest_value}
 use Rattle.run_rules.specs.Grids.{row, top_of, band_width}
 use Rattle.table_laws.specs.declared.Law.{Law}
 use Rattle.table_laws.specs.declared.Law.TheVariants.{Drop, Climb}
@@ -41,8 +42,8 @@ broken_at (Broken k) = k
 pub record IsTable (rows : List ℤ) : Type 0 where
   pub some : 2 ≤ length rows
   pub few : length rows ≤ 501
-  pub most : (k : ℕ) → k ≤ top_of rows → row rows k ≤ℤ pos (10 ^ 15)
-  pub least : (k : ℕ) → k ≤ top_of rows → neg_ℤ (pos (10 ^ 15)) ≤ℤ row rows k
+  pub most : (k : ℕ) → k ≤ top_of rows → row rows k ≤ℤ pos greatest_value
+  pub least : (k : ℕ) → k ≤ top_of rows → neg_ℤ (pos greatest_value) ≤ℤ row rows k
 
 -- the least of the values at whole km/h
 pub record IsLeastRow (rows : List ℤ) (least : ℤ) : Type 0 where

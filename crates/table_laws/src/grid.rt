@@ -1,6 +1,7 @@
 //! The value at a squared speed, from the values at the two whole km/h beside it.
 
 ghost use Rattle.std.specs.Prelude.{◌≡◌, ◌+◌, ◌*◌, ◌^◌, ◌<◌, ◌≤◌, pos, neg_ℤ, ◌≤ℤ◌, ◌*ℤ◌, unsigned_abs};
+ghost use Rattle.unit_rules.specs.Limits.{greatest_value};
 ghost use Rattle.unit_rules.specs.Quotients.{floor_div};
 ghost use Rattle.run_rules.specs.Grids.{row, top_of, band_width, value_between, value_at};
 ghost use Rattle.run_rules.specs.Speeds.{squared};
@@ -19,8 +20,8 @@ pub fn value_near(rows: &[i64], u: u32, near: &mut Near) -> i64
     requires table { IsTable rows.now }
     requires on_table { u ≤ squared (top_of rows.now) }
     ensures value { result ≡ value_at rows.now u }
-    ensures most { result ≤ℤ pos (10 ^ 15) }
-    ensures least { neg_ℤ (pos (10 ^ 15)) ≤ℤ result }
+    ensures most { result ≤ℤ pos greatest_value }
+    ensures least { neg_ℤ (pos greatest_value) ≤ℤ result }
 {
     let part = near.move_to(u);
     let kmh = near.kmh() as usize;
@@ -33,24 +34,24 @@ pub fn value_near(rows: &[i64], u: u32, near: &mut Near) -> i64
 
 // The value that many parts of all on the way from one to the other, rounded down.
 fn value_between(low: i64, high: i64, part: u32, all: &Divisor) -> i64
-    requires low_most { low ≤ℤ pos (10 ^ 15) }
-    requires low_least { neg_ℤ (pos (10 ^ 15)) ≤ℤ low }
-    requires high_most { high ≤ℤ pos (10 ^ 15) }
-    requires high_least { neg_ℤ (pos (10 ^ 15)) ≤ℤ high }
+    requires low_most { low ≤ℤ pos greatest_value }
+    requires low_least { neg_ℤ (pos greatest_value) ≤ℤ low }
+    requires high_most { high ≤ℤ pos greatest_value }
+    requires high_least { neg_ℤ (pos greatest_value) ≤ℤ high }
     requires inside { part ≤ all.now }
     requires some { 0 < all.now }
     requires few { all.now ≤ 10010000 }
     ensures value { result ≡ value_between low high part all.now }
-    ensures most { result ≤ℤ pos (10 ^ 15) }
-    ensures least { neg_ℤ (pos (10 ^ 15)) ≤ℤ result }
+    ensures most { result ≤ℤ pos greatest_value }
+    ensures least { neg_ℤ (pos greatest_value) ≤ℤ result }
 {
     low + part_of(high - low, part, all)
 }
 
 // That many parts of all of a rise, rounded down.
 fn part_of(rise: i64, part: u32, all: &Divisor) -> i64
-    requires most { rise ≤ℤ pos (2 * 10 ^ 15) }
-    requires least { neg_ℤ (pos (2 * 10 ^ 15)) ≤ℤ rise }
+    requires most { rise ≤ℤ pos (2 * greatest_value) }
+    requires least { neg_ℤ (pos (2 * greatest_value)) ≤ℤ rise }
     requires inside { part ≤ all.now }
     requires some { 0 < all.now }
     requires few { all.now ≤ 10010000 }
@@ -74,8 +75,8 @@ fn small_part_of(rise: i64, part: u32, all: &Divisor) -> i64
 }
 
 fn large_part_of(rise: i64, part: u32, all: &Divisor) -> i64
-    requires most { rise ≤ℤ pos (2 * 10 ^ 15) }
-    requires least { neg_ℤ (pos (2 * 10 ^ 15)) ≤ℤ rise }
+    requires most { rise ≤ℤ pos (2 * greatest_value) }
+    requires least { neg_ℤ (pos (2 * greatest_value)) ≤ℤ rise }
     requires inside { part ≤ all.now }
     requires some { 0 < all.now }
     requires few { all.now ≤ 10010000 }

@@ -3,6 +3,7 @@
 #![tactic(auto)]
 
 ghost use Rattle.std.specs.Prelude.{◌≡◌, ℕ, ◌+◌, ◌*◌, ◌^◌, ◌<◌, ◌≤◌, pos, neg_ℤ, ◌≤ℤ◌, IsTrue, IfOk, OnOk, IfErr};
+ghost use Rattle.unit_rules.specs.Limits.{greatest_speed, greatest_value};
 ghost use Rattle.run_rules.specs.Grids.{row, top_of, band_width, value_at};
 ghost use Rattle.run_rules.specs.Speeds.{squared};
 ghost use Rattle.table_laws.specs.Laws.{IsTable, IsLawful, IsFirstBreak, IsLeastRow, KeepsLaw, broken_at, moves_within};
@@ -104,8 +105,8 @@ impl Bands {
     pub fn at(&self, u: u32) -> i64
         requires { u ≤ squared (top_of self.now.rows) }
         ensures value { result ≡ value_at self.now.rows u }
-        ensures most { result ≤ℤ pos (10 ^ 15) }
-        ensures least { neg_ℤ (pos (10 ^ 15)) ≤ℤ result }
+        ensures most { result ≤ℤ pos greatest_value }
+        ensures least { neg_ℤ (pos greatest_value) ≤ℤ result }
         ensures kept { IsLawful self.now }
     {
         value_near(&self.rows, u, &mut Near::new())
@@ -116,8 +117,8 @@ impl Bands {
     pub fn at_near(&self, u: u32, near: &mut Near) -> i64
         requires { u ≤ squared (top_of self.now.rows) }
         ensures value { result ≡ value_at self.now.rows u }
-        ensures most { result ≤ℤ pos (10 ^ 15) }
-        ensures least { neg_ℤ (pos (10 ^ 15)) ≤ℤ result }
+        ensures most { result ≤ℤ pos greatest_value }
+        ensures least { neg_ℤ (pos greatest_value) ≤ℤ result }
         ensures kept { IsLawful self.now }
     {
         value_near(&self.rows, u, near)
@@ -128,8 +129,8 @@ impl Bands {
         ensures row { IsLeastRow self.now.rows result }
         ensures least { (u : ℕ) → u ≤ squared (top_of self.now.rows)
             → result ≤ℤ value_at self.now.rows u }
-        ensures row_most { result ≤ℤ pos (10 ^ 15) }
-        ensures row_least { neg_ℤ (pos (10 ^ 15)) ≤ℤ result }
+        ensures row_most { result ≤ℤ pos greatest_value }
+        ensures row_least { neg_ℤ (pos greatest_value) ≤ℤ result }
         ensures kept { IsLawful self.now }
     {
         least_of(&self.rows)
@@ -152,11 +153,11 @@ fn least_of(rows: &[i64]) -> i64
 
 // Whether the values keep the law from `k` km/h to the next.
 fn keeps_law_at(law: Law, low: i64, high: i64, k: u32) -> bool
-    requires low_most { low ≤ℤ pos (10 ^ 15) }
-    requires low_least { neg_ℤ (pos (10 ^ 15)) ≤ℤ low }
-    requires high_most { high ≤ℤ pos (10 ^ 15) }
-    requires high_least { neg_ℤ (pos (10 ^ 15)) ≤ℤ high }
-    requires slow { k ≤ 500 }
+    requires low_most { low ≤ℤ pos greatest_value }
+    requires low_least { neg_ℤ (pos greatest_value) ≤ℤ low }
+    requires high_most { high ≤ℤ pos greatest_value }
+    requires high_least { neg_ℤ (pos greatest_value) ≤ℤ high }
+    requires slow { k ≤ greatest_speed }
     ensures { result ≡ moves_within law (band_width k) low high }
 {
     match law {
@@ -167,7 +168,7 @@ fn keeps_law_at(law: Law, low: i64, high: i64, k: u32) -> bool
 
 // How far a value may change from `k` km/h to the next, at `per` for each squared speed.
 fn room_of(k: u32, per: u32) -> u64
-    requires { k ≤ 500 }
+    requires { k ≤ greatest_speed }
     ensures room { result ≡ per * band_width k }
     ensures small { result < 10 ^ 17 }
 {

@@ -2,6 +2,7 @@
 //! speeds seldom leaves it.
 
 ghost use Rattle.std.specs.Prelude.{◌≡◌, ◌+◌, ◌<◌, ◌≤◌};
+ghost use Rattle.unit_rules.specs.Limits.{greatest_speed, greatest_squared_speed};
 ghost use Rattle.run_rules.specs.Grids.{band_width};
 ghost use Rattle.run_rules.specs.Speeds.{squared};
 
@@ -38,7 +39,7 @@ impl Near {
     /// The whole number of km/h below.
     pub(crate) fn kmh(&self) -> u32
         ensures kmh { result ≡ self.now }
-        ensures slow { self.now ≤ 500 }
+        ensures slow { self.now ≤ greatest_speed }
     {
         self.kmh
     }
@@ -46,7 +47,7 @@ impl Near {
     /// How many squared speeds, in (0.01 km/h)², there are up to the next whole number of km/h.
     pub(crate) fn width(&self) -> &Divisor
         ensures width { result.now ≡ band_width self.now }
-        ensures slow { self.now ≤ 500 }
+        ensures slow { self.now ≤ greatest_speed }
     {
         &self.width
     }
@@ -54,7 +55,7 @@ impl Near {
     /// Moves to where a squared speed in (0.01 km/h)² lies, and says how far above the whole number
     /// of km/h that is. A root is taken only where it did not lie there before.
     pub(crate) fn move_to(&mut self, u: u32) -> u32
-        requires { u ≤ 2500000000 }
+        requires { u ≤ greatest_squared_speed }
         ensures place { u ≡ squared self.new + result }
         ensures inside { result < band_width self.new }
     {
@@ -69,7 +70,7 @@ impl Near {
 
     // From a whole number of km/h to the next.
     fn above(kmh: u32) -> Near
-        requires { kmh ≤ 500 }
+        requires { kmh ≤ greatest_speed }
         ensures { result ≡ kmh }
     {
         Near {

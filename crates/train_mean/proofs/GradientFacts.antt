@@ -5,7 +5,7 @@ use Rattle.std.proofs.lemmas.Bool.{cases_lt}
 use Rattle.std.proofs.lemmas.List.Elements.{All-head, All-tail}
 use Rattle.std.specs.Prelude.{slice_get}
 use Rattle.std.proofs.lemmas.Bool.Decides.{nat_tests}
-use Rattle.line_tables.specs.declared.table.Slope.{Slope}
+use Rattle.line_tables.specs.declared.line.Slope.{Slope}
 use Rattle.train_mean.specs.Gradients.{gradient_at, sum_from}
 use Rattle.train_mean.specs.Windows.{AreSlopes}
 

@@ -4,7 +4,7 @@ use Rattle.std.specs.Int.{div_ceil, w64}
 use Rattle.std.proofs.Math.Nat.{div-le_of_le-mul}
 use Rattle.std.proofs.lemmas.Int.{ints}
 use Rattle.unit_rules.proofs.FloorFacts.{ceil_div-pos, neg_ℤ-neg_ℤ}
-use Rattle.run_rules.specs.Steps.{IsPull}
+use Rattle.run_rules.specs.StepRules.{IsPull}
 use Rattle.train_mean.specs.Gradients.{pull_of}
 
 -- a product with what is below 0, turned round

@@ -5,8 +5,8 @@ use Rattle.std.specs.Int.{w32, w64}
 use Rattle.std.proofs.lemmas.Int.{ints, to_z-of_z}
 use Rattle.std.proofs.lemmas.List.Elements.{All-head, All-tail}
 use Rattle.line_tables.specs.Slope.{Follows, SlopeLiesOn}
-use Rattle.line_tables.specs.Table.{IsLine, LineTable}
-use Rattle.line_tables.specs.declared.table.Slope.{Slope}
+use Rattle.line_tables.specs.Line.{IsLine, LineView}
+use Rattle.line_tables.specs.declared.line.Slope.{Slope}
 use Rattle.train_mean.specs.Gradients.{gradient_at, gradients_under, sum_from, tail_cell}
 use Rattle.train_mean.specs.Windows.{AreSlopes, Passes, TellsFrom, gradient_left}
 use Rattle.train_mean.proofs.GradientFacts.{sum_from-least, sum_from-most, sum_from-moved}
@@ -28,7 +28,7 @@ AreSlopes-from length (s ∷ rest) lie follow =
     )
 
 -- the slopes of a line are in their order along it
-pub AreSlopes-line : (line : LineTable) → IsLine line → AreSlopes line.slopes
+pub AreSlopes-line : (line : LineView) → IsLine line → AreSlopes line.slopes
 AreSlopes-line line h = AreSlopes-from line.length line.slopes h.slopes_lie h.slopes_follow
 
 either_most : (b : Bool) (x y : ℤ) → x ≤ℤ pos 1000 → y ≤ℤ pos 1000 → cond b x y ≤ℤ pos 1000

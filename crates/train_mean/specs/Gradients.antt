@@ -2,7 +2,7 @@
 use Rattle.std.specs.Prelude.{ℕ, zero, suc, ◌+◌, ◌-◌, ◌*◌, ◌&&◌, nat_le, nat_lt, if◌then◌else◌, List, [], ◌∷◌, map, ℤ, pos, ◌+ℤ◌, ◌*ℤ◌}
 use Rattle.std.specs.List.{range_with_len}
 use Rattle.unit_rules.specs.Quotients.{ceil_div}
-use Rattle.line_tables.specs.declared.table.Slope.{Slope}
+use Rattle.line_tables.specs.declared.line.Slope.{Slope}
 
 -- the gradient at a cell: that of the slope in which it lies, and level where there is none
 abbrev pub gradient_at : List Slope → ℕ → ℤ

@@ -1,7 +1,7 @@
 -- The slopes that are still ahead of a train's head or tail.
 use Rattle.std.specs.Prelude.{ℕ, ◌-◌, ◌<◌, ◌≤◌, ◌≡◌, nat_le, if◌then◌else◌, List, [], ◌∷◌, All, ℤ, pos, neg_ℤ, ◌≤ℤ◌, ⊤}
 use Rattle.line_tables.specs.Slope.{Follows}
-use Rattle.line_tables.specs.declared.table.Slope.{Slope}
+use Rattle.line_tables.specs.declared.line.Slope.{Slope}
 use Rattle.train_mean.specs.Gradients.{gradient_at}
 
 -- a slope is not empty, and its gradient is in range

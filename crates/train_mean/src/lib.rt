@@ -2,7 +2,8 @@
 #![tactic(auto)]
 
 ghost use Rattle.std.specs.Prelude.{◌≡◌, ◌*◌, ◌-◌, ◌≤◌, ◌<◌, ℕ, pos, neg_ℤ, ◌≤ℤ◌, ◌+ℤ◌, ◌-ℤ◌, All, IfOk};
-ghost use Rattle.run_rules.specs.Steps.{IsPull};
+ghost use Rattle.unit_rules.specs.Limits.{longest_train};
+ghost use Rattle.run_rules.specs.StepRules.{IsPull};
 ghost use Rattle.train_mean.specs.Gradients.{gradient_at, pull_of, pulls_of};
 ghost use Rattle.train_mean.specs.Windows.{AreSlopes, IsAhead, Passes, TellsFrom, gradient_left};
 
@@ -17,7 +18,7 @@ use unit_rules::{Divisor, Memory};
 pub fn pulls(alloc: Global, line: &Line, mass: u32, train: u32) -> Result<Vec<i64>, Memory>
     requires mass { mass ≤ 20000000 }
     requires train_least { 1 ≤ train }
-    requires train_most { train ≤ 5000 }
+    requires train_most { train ≤ longest_train }
     ensures pulls { IfOk result
         (λ pulls. pulls.items ≡ pulls_of line.now.slopes line.now.length mass train) }
     ensures small { IfOk result (λ pulls. All IsPull pulls.items) }
@@ -117,7 +118,7 @@ struct Under {
 fn pulled(mass: u32, train: u32, divisor: &Divisor, before: Under, sum: i64) -> Under
     requires mass { mass ≤ 20000000 }
     requires train_least { 1 ≤ train }
-    requires train_most { train ≤ 5000 }
+    requires train_most { train ≤ longest_train }
     requires divisor { divisor.now ≡ 625 * train }
     requires before { before.pull ≡ pull_of mass train before.sum }
     requires least { neg_ℤ (pos (1000 * train)) ≤ℤ sum }
@@ -191,7 +192,7 @@ fn moved_sum(sum: i64, entered: i32, left: i32) -> i64
 fn pull(mass: u32, train: u32, divisor: &Divisor, sum: i64) -> i64
     requires mass { mass ≤ 20000000 }
     requires train_least { 1 ≤ train }
-    requires train_most { train ≤ 5000 }
+    requires train_most { train ≤ longest_train }
     requires divisor { divisor.now ≡ 625 * train }
     requires least { neg_ℤ (pos (1000 * train)) ≤ℤ sum }
     requires most { sum ≤ℤ pos (1000 * train) }

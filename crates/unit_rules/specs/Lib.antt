@@ -1,3 +1,5 @@
+pub mod Known
+pub mod Limits
 pub mod Memory
 pub mod Numeral
 pub mod Quotients

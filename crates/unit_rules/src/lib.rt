@@ -1,16 +1,20 @@
-//! The rules of units that every layer shares: want of memory, numerals, exact quotients, zones of
-//! a line, and a counter of steps.
+//! The rules of units that every layer shares: want of memory, numerals, exact quotients and roots,
+//! zones of a line, and a counter of steps.
 #![tactic(auto)]
 
 mod counter;
 mod divisors;
+mod limits;
 mod numerals;
 mod quotients;
+mod roots;
 
 pub use counter::Steps;
 pub use divisors::Divisor;
+pub use limits::{GREATEST_SPEED, LONGEST_LINE, LONGEST_TRAIN, MOST_BYTES};
 pub use numerals::{number_in, read_whole, signed_within, within};
 pub use quotients::{div_ceil, div_floor};
+pub use roots::{both_roots, root_ceil, root_floor};
 
 /// Memory was wanted and could not be had.
 #[derive(Clone, Copy, Debug, PartialEq, Eq)]

@@ -1,8 +1,9 @@
 use Rattle.std.proofs.Common.{◌≡◌, ◌+◌, arith, rules, sym, ◌∙◌, length-set, get_or-set_other, get_or-set_same, Some, inl, inr}
 use Rattle.std.proofs.lemmas.Bool.{iff_false, cases_eq}
-use Rattle.run_rules.specs.Walks.{known_at}
+use Rattle.unit_rules.specs.Known.{known_at}
+use Rattle.unit_rules.proofs.KnownFacts.{known_at-same, known_at-some}
 use Rattle.run_rules.proofs.DrivingFacts.{IsDriven-capped, IsDriven-next, IsDriven-set}
-use Rattle.run_rules.proofs.ResumeFacts.{EndsAt-resumed, known_at-same, known_at-some}
+use Rattle.run_rules.proofs.ResumeFacts.{EndsAt-resumed}
 use Rattle.run_rules.proofs.StallFacts.{EndsAt-driven}
 use Rattle.step_rule.specs.Motion.{step_rule_of}
 use Rattle.effort_run.proofs.drive.Goals as goal

@@ -1,5 +1,5 @@
 use Rattle.std.proofs.Common.{◌≡◌, ◌≢◌, ℕ, ◌+◌, ◌-◌, ◌<◌, ◌≤◌, length, slice_index, Some}
-use Rattle.run_rules.specs.Walks.{known_at}
+use Rattle.unit_rules.specs.Known.{known_at}
 use Rattle.run_rules.proofs.DrivingFacts.{IsDriven}
 use Rattle.step_rule.specs.Motion.{step_rule_of}
 use Rattle.effort_run.proofs.drive.Given as goal

@@ -1,7 +1,7 @@
 use Rattle.std.proofs.Common.{◌≤ℤ◌, ◌<ℤ◌, SFits, pos, arith, subst, sym}
 use Rattle.std.specs.Int.{w64}
 use Rattle.std.proofs.lemmas.Int.{ints, to_z-of_z}
-use Rattle.run_rules.specs.Steps.{IsPull}
+use Rattle.run_rules.specs.StepRules.{IsPull}
 use Rattle.train_mean.proofs.PullFacts.{IsPull-pull_of, pull-above, pull-above_is, pull-below}
 use Rattle.train_mean.proofs.pull.Goals as goal
 

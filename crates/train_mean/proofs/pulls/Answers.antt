@@ -3,7 +3,7 @@ use Rattle.std.specs.Int.{w64}
 use Rattle.std.proofs.lemmas.Int.{ints, to_z-of_z}
 use Rattle.std.proofs.lemmas.List.Elements.{All-nil, All-push}
 use Rattle.std.proofs.lemmas.List.FromFn.{map-range_with_len_more}
-use Rattle.run_rules.specs.Steps.{IsPull}
+use Rattle.run_rules.specs.StepRules.{IsPull}
 use Rattle.train_mean.specs.Gradients.{gradients_under, pull_of}
 use Rattle.train_mean.proofs.WindowFacts.{AreSlopes-line, IsMean-under, IsSumUnder, IsSumUnder-moved, SFits-passes}
 use Rattle.train_mean.proofs.pulls.Goals as goal
@@ -15,11 +15,11 @@ loop-cell-init c =
     let first = c.pull.ensures.small in
     let first_fits : SFits w64 c.pull.result = omega (arith, ints, first.least, first.most) in
     record {
-      head_tells = λ k h. rw c.slopes.ensures refl;
-      head_slopes = rw c.slopes.ensures slopes;
+      head_tells = λ k h. rw c.slopes.ensures.slopes refl;
+      head_slopes = rw c.slopes.ensures.slopes slopes;
       head_passes = record { steady = λ k h l. absurd (omega arith); least = omega (arith, ints); most = omega (arith, ints) };
-      tail_tells = λ k h. rw c.slopes.ensures refl;
-      tail_slopes = rw c.slopes.ensures slopes;
+      tail_tells = λ k h. rw c.slopes.ensures.slopes refl;
+      tail_slopes = rw c.slopes.ensures.slopes slopes;
       tail_passes = record { steady = λ k h l. absurd (omega arith); least = omega (arith, ints); most = omega (arith, ints) };
       sum = rw none refl;
       pulls = c.in-Ok.ensures.items;

@@ -1,6 +1,6 @@
 use Rattle.std.proofs.Common.{◌≡◌, ◌-◌, All, map}
 use Rattle.std.specs.List.{range_with_len}
-use Rattle.run_rules.specs.Steps.{IsPull}
+use Rattle.run_rules.specs.StepRules.{IsPull}
 use Rattle.train_mean.specs.Gradients.{gradient_at, gradients_under, pull_of, sum_from}
 use Rattle.train_mean.specs.Windows.{AreSlopes, Passes, TellsFrom, gradient_left}
 use Rattle.train_mean.proofs.pulls.Given as goal

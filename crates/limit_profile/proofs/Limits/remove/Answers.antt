@@ -9,10 +9,10 @@ pub list_changed-requires-clause-before : goal.list_changed-requires-clause-befo
 list_changed-requires-clause-before c =
     let course = c.self.inside.course in
     let zones = c.self.inside.zones.items in
-    let index = c.place_of-index.result in
+    let index = c.index_of-index.result in
     let none : Zone = record { from = 0; to = 0; kmh = 0 } in
     let held = c.deref.ensures.value in
-    let stood = zones-about zones index none c.args.zone (rw held at c.place_of-index.ensures.bound) (rw held at (c.place_of-index.ensures.zone none)) in
+    let stood = zones-about zones index none c.args.zone (rw held at c.index_of-index.ensures.bound) (rw held at (c.index_of-index.ensures.zone none)) in
     record {
       caps = zoned course zones;
       come = λ i free. rw (c.deref-2.ensures.value ∙ c.remove.ensures.by_index.2) (zoned_at-without course.length course.train course.top (take index zones) (drop (index + 1) zones) c.args.zone i free ∙ ap (λ zs. zoned course zs i) (sym stood));
@@ -22,14 +22,14 @@ list_changed-requires-clause-before c =
 pub returns : goal.returns
 returns c =
     let zones = c.self.inside.zones.items in
-    let index = c.place_of-index.result in
+    let index = c.index_of-index.result in
     let none : Zone = record { from = 0; to = 0; kmh = 0 } in
     let held = c.deref.ensures.value in
     record {
       without = record {
         front = take index zones;
         back = drop (index + 1) zones;
-        stood = sym (ap (λ (p : Profile). p.zones) c.self.view_is) ∙ zones-about zones index none c.args.zone (rw held at c.place_of-index.ensures.bound) (rw held at (c.place_of-index.ensures.zone none));
+        stood = sym (ap (λ (p : Profile). p.zones) c.self.view_is) ∙ zones-about zones index none c.args.zone (rw held at c.index_of-index.ensures.bound) (rw held at (c.index_of-index.ensures.zone none));
         stands = c.remove.ensures.by_index.2;
       };
       rest = rw (← c.self.view_is) refl;

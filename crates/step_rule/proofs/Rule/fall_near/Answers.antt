@@ -1,6 +1,6 @@
 use Rattle.std.proofs.Common.{arith}
 use Rattle.std.proofs.lemmas.Int.{ints}
-use Rattle.run_rules.specs.Steps.{fall_from}
+use Rattle.run_rules.specs.StepRules.{fall_from}
 use Rattle.step_rule.proofs.Rule.fall_near.Goals as goal
 
 pub returns-clause-value : goal.returns-clause-value

@@ -1,6 +1,6 @@
 use Rattle.std.proofs.Common.{◌≤◌, ◌-◌, pos, ◌≤ℤ◌}
 use Rattle.run_rules.specs.Speeds.{squared}
-use Rattle.run_rules.specs.Steps.{fall_from}
+use Rattle.run_rules.specs.StepRules.{fall_from}
 use Rattle.step_rule.specs.Motion.{kmh_of}
 use Rattle.step_rule.proofs.Rule.kmh_braked_from.Given as goal
 

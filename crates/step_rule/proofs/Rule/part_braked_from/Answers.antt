@@ -3,8 +3,8 @@ use Rattle.std.proofs.lemmas.Int.{ints, to_z-of_z}
 use Rattle.step_rule.proofs.BrakeFacts.{IsBrakedFrom-part}
 use Rattle.step_rule.proofs.Rule.part_braked_from.Goals as goal
 
-pub part_of-requires-clause-below : goal.part_of-requires-clause-below
-part_of-requires-clause-below c =
+pub parts_within-requires-clause-below : goal.parts_within-requires-clause-below
+parts_within-requires-clause-below c =
     let here_fits : SFits w64 c.fall_at_kmh-here.result = omega (arith, ints) in
     let next_fits : SFits w64 c.fall_at_kmh.result = omega (arith, ints) in
     let w_fits : SFits w64 (pos c.args.w) = omega (arith, ints) in
@@ -19,7 +19,7 @@ returns-clause-part c =
     let here_fits : SFits w64 c.fall_at_kmh-here.result = omega (arith, ints) in
     let next_fits : SFits w64 c.fall_at_kmh.result = omega (arith, ints) in
     let w_fits : SFits w64 (pos c.args.w) = omega (arith, ints) in
-    IsBrakedFrom-part c.args.self.now c.args.kmh c.args.w c.abs_diff-gap.result c.abs_diff-rise.result c.part_of.result c.fall_at_kmh-here.result c.fall_at_kmh.result
+    IsBrakedFrom-part c.args.self.now c.args.kmh c.args.w c.abs_diff-gap.result c.abs_diff-rise.result c.parts_within.result c.fall_at_kmh-here.result c.fall_at_kmh.result
     (record {
       below_top = c.requires.below_top;
       first = c.fall_at_kmh-here.ensures.value;
@@ -29,4 +29,4 @@ returns-clause-part c =
       gap_is = simp to_z-of_z at (rw c.from.ensures at c.abs_diff-gap.ensures);
       rise_is = simp to_z-of_z at c.abs_diff-rise.ensures;
     })
-    c.part_of.ensures
+    c.parts_within.ensures

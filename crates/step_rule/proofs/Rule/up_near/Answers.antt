@@ -1,7 +1,7 @@
 use Rattle.std.proofs.Common.{arith, SFits, w64, pos, length, ap}
 use Rattle.std.proofs.lemmas.Int.{ints, to_z-of_z}
 use Rattle.std.proofs.lemmas.List.{get_or_read}
-use Rattle.run_rules.specs.Steps.{up_from}
+use Rattle.run_rules.specs.StepRules.{up_from}
 use Rattle.step_rule.specs.Motion.{Motion}
 use Rattle.step_rule.proofs.Rule.up_near.Goals as goal
 

@@ -1,6 +1,7 @@
 -- The step rule: what one metre makes of a squared speed, which changes by twice acceleration times distance.
 use Rattle.std.specs.Prelude.{ℕ, ◌^◌, ℤ, pos, neg_ℤ, ◌≤ℤ◌, ◌+ℤ◌, ◌-ℤ◌, List}
 use Rattle.std.specs.Int.{int_min}
+use Rattle.unit_rules.specs.Limits.{greatest_pull}
 use Rattle.unit_rules.specs.Quotients.{floor_div}
 use Rattle.run_rules.specs.Grids.{row, value_at}
 use Rattle.run_rules.specs.Runs.{StepRule}
@@ -26,5 +27,5 @@ rule_of push brake moved pulls = record {
 
 -- the pull of the gradient at a cell, in the units of push, is at most 10^13 either way
 pub record IsPull (pull : ℤ) : Type 0 where
-  pub least : neg_ℤ (pos (10 ^ 13)) ≤ℤ pull
-  pub most : pull ≤ℤ pos (10 ^ 13)
+  pub least : neg_ℤ (pos greatest_pull) ≤ℤ pull
+  pub most : pull ≤ℤ pos greatest_pull
