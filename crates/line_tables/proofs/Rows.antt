@@ -1,5 +1,5 @@
 -- The rules of line files at small files, computed from the definitions alone.
-use Rattle.std.proofs.Common.{◌≡◌, Ok, Err, [], ◌∷◌, codes, pos, neg_ℤ, refl}
+use Rattle.std.proofs.Common.{◌≡◌, ℕ, Ok, Err, List, [], ◌∷◌, ◌++◌, false, codes, pos, neg_ℤ, refl}
 use Rattle.csv.specs.Machine.{next_record}
 use Rattle.csv.specs.Reading.{records_from, strip_bom}
 use Rattle.std.specs.Str.{chars, is_utf8}
@@ -8,6 +8,7 @@ use Rattle.unit_rules.specs.Numeral.{whole_of}
 use Rattle.record_rules.specs.Faults.{first_fault}
 use Rattle.line_tables.specs.LineFile.{read_as_line}
 use Rattle.line_tables.specs.declared.LineFault.TheVariants.{Bad, Missing}
+use Rattle.line_tables.specs.Names.{is_name}
 
 no_bytes : read_as_line (codes "") ≡ Err Missing
 unfolding next_record records_from strip_bom whole_of is_utf8 chars encode first_fault
@@ -107,10 +108,28 @@ too_steep : read_as_line (codes "line,A,10\ngradient,0,5,-1001\n") ≡ Err (Bad 
 unfolding next_record records_from strip_bom whole_of is_utf8 chars encode first_fault
 too_steep = refl
 
-place_past_any_line : read_as_line (codes "point,500001,P\n") ≡ Err (Bad 1 4)
+position_past_any_line : read_as_line (codes "point,500001,P\n") ≡ Err (Bad 1 4)
 unfolding next_record records_from strip_bom whole_of is_utf8 chars encode first_fault
-place_past_any_line = refl
+position_past_any_line = refl
 
 point_before_line : read_as_line (codes "point,500000,P\n") ≡ Err (Bad 1 5)
 unfolding next_record records_from strip_bom whole_of is_utf8 chars encode first_fault
 point_before_line = refl
+
+comma_in_name : is_name (codes "A,B") ≡ false
+unfolding is_utf8 chars encode
+comma_in_name = refl
+
+-- Mühl in UTF-8
+abbrev muehl : List ℕ
+muehl = codes "M" ++ 195 ∷ 188 ∷ codes "hl"
+
+names_as_spelled : read_as_line (codes "line,old  Mill,10\npoint,3," ++ muehl ++ codes "\npoint,3,Muhl\npoint,3,muhl\n") ≡ Ok (record {
+  name = codes "old  Mill";
+  length = 10;
+  slopes = [];
+  limits = [];
+  points = (muehl, 3) ∷ (codes "Muhl", 3) ∷ (codes "muhl", 3) ∷ [];
+})
+unfolding next_record records_from strip_bom whole_of is_utf8 chars encode first_fault
+names_as_spelled = refl

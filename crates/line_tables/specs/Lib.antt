@@ -4,4 +4,4 @@ pub mod LineFile
 pub mod Names
 pub mod Points
 pub mod Slope
-pub mod Table
+pub mod Line

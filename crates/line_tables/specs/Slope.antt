@@ -1,6 +1,6 @@
 -- Slopes of a line.
 use Rattle.std.specs.Prelude.{ℕ, ◌<◌, ◌≤◌, ◌≤ℤ◌, pos, neg_ℤ}
-use Rattle.line_tables.specs.declared.table.Slope.{Slope}
+use Rattle.line_tables.specs.declared.line.Slope.{Slope}
 
 -- a slope lies on a line of that length, in metres
 pub record SlopeLiesOn (length : ℕ) (s : Slope) : Type 0 where

@@ -1,10 +1,12 @@
 //! A line while the records of its file are read.
 
-ghost use Rattle.std.specs.Prelude.{◌≡◌, ◌≤◌, Some, []};
+ghost use Rattle.std.specs.Prelude.{◌≡◌, ◌≤◌, IfSome, Some, []};
+ghost use Rattle.unit_rules.specs.Limits.{longest_line};
 ghost use Rattle.csv.specs.Records.{fields_of};
 ghost use Rattle.record_rules.specs.Faults.{TakesOne};
 ghost use Rattle.record_rules.specs.Records.{field};
-ghost use Rattle.line_tables.specs.LineFile.{draft_of, finished_line, gradient_rule, kind_of, last_place, limit_rule, line_rule, point_rule, rule_after, slopes_end, with_record};
+ghost use Rattle.line_tables.specs.LineFile.{draft_of, finished_line, gradient_rule, kind_of, last_position, limit_rule, line_rule, point_rule, rule_after, slopes_end, with_record};
+ghost use Rattle.line_tables.specs.Line.{IsLine};
 
 mod rules;
 
@@ -12,10 +14,10 @@ use crate::kinds::{Kind, kind_of};
 use crate::points::Points;
 use crate::{Line, Name, Slope};
 use csv::ByteRecord;
-use record_rules::{Stop, TableReader, field};
+use record_rules::{RecordReader, Stop, UNKNOWN_KIND, field};
 use std::alloc::Global;
 use std::marker::Model;
-use unit_rules::Zone;
+use unit_rules::{LONGEST_LINE, Zone};
 
 // What the records so far say: the name and the length of the line, and its slopes, limits and
 // points.
@@ -28,9 +30,9 @@ pub(crate) struct Draft {
 }
 
 impl Model for Draft {
-    ghost use Rattle.line_tables.specs.Draft.{DraftTable, IsDraft};
+    ghost use Rattle.line_tables.specs.Draft.{DraftView, IsDraft};
 
-    ghost Value = { DraftTable };
+    ghost Value = { DraftView };
 
     ghost view = { λ d. record {
       line = d.line;
@@ -59,18 +61,18 @@ impl Draft {
         }
     }
 
-    // The greatest place of the line.
-    fn last_place(&self) -> u32
-        ensures place { result ≡ last_place self.now }
-        ensures most { result ≤ 500000 }
+    // The greatest position on the line.
+    fn last_position(&self) -> u32
+        ensures position { result ≡ last_position self.now }
+        ensures most { result ≤ longest_line }
     {
         match &self.line {
             Some(line) => line.1,
-            None => 500_000,
+            None => LONGEST_LINE,
         }
     }
 
-    // The place at which the slopes so far end.
+    // The position at which the slopes so far end.
     fn slopes_end(&self) -> u32
         ensures { result ≡ slopes_end self.now }
     {
@@ -89,10 +91,10 @@ impl Draft {
             Ok(length) => length,
             Err(rule) => return Err(Stop::Broken { rule }),
         };
-        let Ok(name) = Vec::from_slice(alloc, field(row, 1)) else {
+        let Ok(name) = Name::copied(alloc, field(row, 1)) else {
             return Err(Stop::Memory);
         };
-        self.line = Some((Name::new(name), length));
+        self.line = Some((name, length));
         Ok(())
     }
 
@@ -135,7 +137,7 @@ impl Draft {
             Ok(position) => position,
             Err(rule) => return Err(Stop::Broken { rule }),
         };
-        let Ok(name) = Vec::from_slice(alloc, field(row, 2)) else {
+        let Ok(name) = Name::copied(alloc, field(row, 2)) else {
             return Err(Stop::Memory);
         };
         match self.points.add(name, position) {
@@ -150,7 +152,7 @@ impl Draft {
             (self.new ≡ with_record self.old (fields_of row.now)) result }
     {
         match kind_of(field(row, 0)) {
-            None => Err(Stop::Broken { rule: 1 }),
+            None => Err(Stop::Broken { rule: UNKNOWN_KIND }),
             Some(Kind::Comment) => Ok(()),
             Some(Kind::Line) => self.take_line(alloc, row),
             Some(Kind::Gradient) => self.take_gradient(row),
@@ -161,7 +163,8 @@ impl Draft {
 
     /// The line, if there was a record of it.
     pub(crate) fn finish(self) -> Option<Line>
-        ensures { result ≡ finished_line self }
+        ensures line { result ≡ finished_line self }
+        ensures kept { IfSome result IsLine }
     {
         let Draft {
             line,
@@ -176,10 +179,10 @@ impl Draft {
     }
 }
 
-impl TableReader for Draft {
+impl RecordReader for Draft {
     ghost rule = { λ _ before r. rule_after (draft_of before) r };
 
-    ghost says = { λ d before. d ≡ draft_of before };
+    ghost says = { λ _ d before. d ≡ draft_of before };
 
     fn take(&mut self, alloc: Global, row: &ByteRecord) -> Result<(), Stop> {
         self.take_record(alloc, row)

@@ -2,22 +2,23 @@
 //! describes.
 #![tactic(auto)]
 
-ghost use Rattle.std.specs.Prelude.{◌≡◌, Err};
+ghost use Rattle.std.specs.Prelude.{◌≡◌, Err, IfOk};
 ghost use Rattle.unit_rules.specs.Memory.{Gives};
 ghost use Rattle.line_tables.specs.LineFile.{read_as_line};
 ghost use Rattle.line_tables.specs.Faults.{line_fault};
+ghost use Rattle.line_tables.specs.Line.{IsLine};
 
 mod draft;
 mod kinds;
+mod line;
 mod names;
 mod points;
-mod table;
 
 use crate::draft::Draft;
+pub use line::{Line, Slope};
 pub use names::Name;
 use record_rules::{RecordFault, read_records};
 use std::alloc::Global;
-pub use table::{Line, Slope};
 use thiserror::Error;
 
 /// Why a line file is refused.
@@ -46,7 +47,8 @@ impl From<RecordFault> for LineFault {
 
 /// Reads a line file: the line that it describes, or its first fault.
 pub fn read_line(alloc: Global, bytes: &[u8]) -> Result<Line, LineFault>
-    ensures { Gives (Err LineFault.Memory) (read_as_line bytes.now) result }
+    ensures line { Gives (Err LineFault.Memory) (read_as_line bytes.now) result }
+    ensures kept { IfOk result IsLine }
 {
     let mut draft = Draft::new(alloc);
     read_records(alloc, bytes, &mut draft)?;

@@ -1,38 +1,69 @@
 //! Names of lines and points.
 
-ghost use Rattle.std.specs.Prelude.{◌≡◌, ◌<◌, length};
+ghost use Rattle.std.specs.Prelude.{◌≡◌, ◌<◌, IfOk, IsTrue, None, Some, if◌then◌else◌, length};
 ghost use Rattle.std.specs.List.{list_all};
 ghost use Rattle.std.specs.Str.{is_utf8};
 ghost use Rattle.line_tables.specs.Names.{is_name, is_name_byte, is_tight};
 
+use std::alloc::Global;
 use std::marker::Model;
+use unit_rules::Memory;
 
-/// The name of a line or of a point.
+/// The name of a line or of a point, as it was spelled: 1 to 60 bytes of UTF-8 with no control
+/// byte, comma or double quote, and no space at either end.
 #[derive(Drop)]
 pub struct Name {
     bytes: Vec<u8>,
 }
 
 impl Model for Name {
-    ghost use Rattle.std.specs.Prelude.{List, ℕ};
+    ghost use Rattle.std.specs.Prelude.{List, ℕ, IsTrue};
+    ghost use Rattle.line_tables.specs.Names.{is_name};
 
     ghost Value = { List ℕ };
 
     ghost view = { λ n. n.bytes.items };
+
+    ghost invariant = { λ n. IsTrue (is_name n.bytes.items) };
 }
 
 impl Name {
-    pub(crate) fn new(bytes: Vec<u8>) -> Name
-        ensures { result ≡ bytes.items }
+    /// The name of these bytes; `None` exactly where they are no name.
+    pub fn of(alloc: Global, text: &[u8]) -> Result<Option<Name>, Memory>
+        ensures { IfOk result
+            (λ name. name ≡ (if is_name text.now then Some text.now else None)) }
     {
-        Name { bytes }
+        if !is_name(text) {
+            return Ok(None);
+        }
+        Ok(Some(Name::copied(alloc, text)?))
+    }
+
+    // The name of these bytes, which are one.
+    pub(crate) fn copied(alloc: Global, text: &[u8]) -> Result<Name, Memory>
+        requires { IsTrue (is_name text.now) }
+        ensures { IfOk result (λ name. name ≡ text.now) }
+    {
+        match Vec::from_slice(alloc, text) {
+            Ok(bytes) => Ok(Name { bytes }),
+            Err(_) => Err(Memory),
+        }
     }
 
     /// The bytes of the name, in UTF-8.
     pub fn bytes(&self) -> &[u8]
-        ensures { result.now ≡ self.now }
+        ensures bytes { result.now ≡ self.now }
+        ensures kept { IsTrue (is_name self.now) }
     {
         self.bytes.as_slice()
+    }
+
+    // The bytes alone.
+    pub(crate) fn into_bytes(self) -> Vec<u8>
+        ensures { result.items ≡ self }
+    {
+        let Name { bytes } = self;
+        bytes
     }
 }
 

@@ -3,6 +3,7 @@
 ghost use Rattle.std.specs.Prelude.{◌≡◌, ◌++◌, ◌∷◌, [], None, if◌then◌else◌, is_ok};
 ghost use Rattle.line_tables.specs.Points.{find_point};
 
+use crate::Name;
 use indexmap::IndexMap;
 use std::alloc::{AllocError, Global};
 use std::marker::Model;
@@ -39,12 +40,11 @@ impl Points {
     }
 
     // Adds a point, of a name that no point has yet, at the end.
-    pub(crate) fn add(&mut self, name: Vec<u8>, at: u32) -> Result<(), AllocError>
-        requires { find_point name.items self.old ≡ None }
-        ensures { self.new
-            ≡ (if is_ok result then self.old ++ (name.items, at) ∷ [] else self.old) }
+    pub(crate) fn add(&mut self, name: Name, at: u32) -> Result<(), AllocError>
+        requires { find_point name self.old ≡ None }
+        ensures { self.new ≡ (if is_ok result then self.old ++ (name, at) ∷ [] else self.old) }
     {
-        self.positions.insert(name, at)?;
+        self.positions.insert(name.into_bytes(), at)?;
         Ok(())
     }
 }

@@ -1,6 +1,6 @@
 -- How far a file is read: what csv's reader has left, and the records before it, which break no rule.
-use Rattle.std.proofs.Common.{◌≡◌, ◌+◌, ◌-◌, ℕ, List, [], ◌∷◌, ◌++◌, length, Bor, Option, Some, None, Bool, true, false, refl, sym, ap, arith, ◌∙◌, inl, inr, append_assoc, length-append}
-use Rattle.csv.specs.Reading.{Reached, Ready, ReadRecord, default_config, records_from, source_of, strip_bom, took_first}
+use Rattle.std.proofs.Common.{◌≡◌, ◌≤◌, ◌+◌, ◌-◌, ℕ, List, [], ◌∷◌, ◌++◌, length, Bor, Option, Some, None, Bool, true, false, cond, refl, sym, ap, arith, ◌∙◌, inl, inr, append_assoc, length-append}
+use Rattle.csv.specs.Reading.{Reached, Ready, ReadRecord, default_config, is_bom, records_from, source_of, strip_bom, took_first}
 use Rattle.csv.specs.declared.reader.Reader.{Reader}
 use Rattle.csv.specs.declared.reader.Trim.TheVariants as trim
 use Rattle.csv.specs.declared.parser.State.TheVariants as st
@@ -8,12 +8,12 @@ use Rattle.csv.proofs.ReadFacts.{rows-end, rows-more}
 use Rattle.record_rules.specs.Records.{Record, file_records}
 use Rattle.record_rules.specs.Faults.{first_fault}
 use Rattle.record_rules.proofs.FaultFacts.{first_fault-append, first_fault-broken, first_fault-kept, first_fault-none}
-use Rattle.record_rules.proofs.RecordFacts.{records-all, records-reached}
+use Rattle.record_rules.proofs.RecordFacts.{length-reached, records-all, records-reached}
 
 abbrev pub bytes_left : Bor (List ℕ) → Option (List ℕ)
 bytes_left s = Some s.now
 
--- the reader stands behind these records of the text, which break no rule and of which a table says what they say
+-- the reader of csv stands behind these records of the text, which break no rule and were taken
 pub record Reads (rule : List Record → Record → Option ℕ) (says : List Record → Type 0) (text : List ℕ) (reader : Reader (Bor (List ℕ))) (done : ℕ) : Type 0 where
   pub plain : reader.trim ≡ trim.None
   pub ready : Ready reader
@@ -81,3 +81,22 @@ Reads-broken rule says text a b done r k h found e0 read broken =
     let all = records-reached default_config b.state (strip_bom text) m.0 (h.rows ++ r ∷ []) m.2 in
     let more = records_from default_config (length (strip_bom text) + 1 - length (h.rows ++ r ∷ [])) b.state m.0 in
     rw (all, append_assoc h.rows (r ∷ []) more) (first_fault-append rule [] h.rows (r ∷ more) h.clean ∙ first_fault-broken rule h.rows r more k broken ∙ ap (λ (n : ℕ). Some (n + 1, k)) h.count)
+
+-- a text without its byte order mark is no longer
+length-strip_bom : (text : List ℕ) → length (strip_bom text) ≤ length text
+unfolding strip_bom
+length-strip_bom [] = omega arith
+length-strip_bom (a ∷ []) = omega arith
+length-strip_bom (a ∷ b ∷ []) = omega arith
+length-strip_bom (a ∷ b ∷ c ∷ rest) = by (is_bom a b c)
+  where
+    by : (mark : Bool) → length (cond mark rest (a ∷ b ∷ c ∷ rest)) ≤ length (a ∷ b ∷ c ∷ rest)
+    by true = omega arith
+    by false = omega arith
+
+-- each record that was read took a byte at least
+pub Reads-few : (rule : List Record → Record → Option ℕ) (says : List Record → Type 0) (text : List ℕ) (reader : Reader (Bor (List ℕ))) (done : ℕ)
+    → Reads rule says text reader done → done ≤ length text
+Reads-few rule says text reader done h =
+    let taken = length-reached default_config st.StartRecord reader.state (strip_bom text) h.left h.rows h.reached refl in
+    omega (arith, h.count, taken, length-strip_bom text)

@@ -1,2 +1,4 @@
+pub mod Fields
 pub mod Records
 pub mod Faults
+pub mod Rules

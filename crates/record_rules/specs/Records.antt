@@ -1,4 +1,4 @@
--- The records of a table file.
+-- The records of a record file, such as a line file.
 use Rattle.std.specs.Prelude.{ℕ, List, [], slice_index_or}
 use Rattle.csv.specs.Reading.{default_config, records, strip_bom}
 

@@ -12,6 +12,7 @@ use Rattle.stock_tables.specs.declared.curve.Row.{Row}
 use Rattle.stock_tables.specs.declared.motion.Resistance.{Resistance}
 use Rattle.stock_tables.specs.Curve.{IsCurveTo, curve_value, values_to}
 use Rattle.stock_tables.specs.Motion.{IsResistance, brake_loss, brake_rows, net_push, push_rows, resistance_at}
+use Rattle.stock_tables.specs.Rules.{brake_key, effort_key}
 use Rattle.stock_tables.specs.Stock.{IsStrong, IsTableTo}
 use Rattle.stock_tables.specs.StockFile.{lawful_table}
 use Rattle.stock_tables.proofs.LawFacts.{lawful_table-ok}
@@ -88,16 +89,16 @@ IsTableTo-read number top law f (Ok table) e kept =
     let same = lawful_table-ok number law (map f (range_with_len 0 (top + 1))) (Ok table) table e refl in
     record { ends = rw same (top_of-map f top); under = rw same refl; kept = kept }
 
-pub IsTableTo-push : (top : ℕ) (law : Law) (effort : List Row) (r : Resistance) (result : Result BandTable StockFault) → result ≡ lawful_table 5 law (push_rows top effort r) → IfOk result IsLawful
+pub IsTableTo-push : (top : ℕ) (law : Law) (effort : List Row) (r : Resistance) (result : Result BandTable StockFault) → result ≡ lawful_table effort_key law (push_rows top effort r) → IfOk result IsLawful
     → IfOk result (IsTableTo top law)
 IsTableTo-push top law effort r = IsTableTo-read 5 top law (λ k. net_push (curve_value effort k) (resistance_at r k))
 
-pub IsTableTo-brake : (top : ℕ) (law : Law) (rates : List Row) (result : Result BandTable StockFault) → result ≡ lawful_table 7 law (brake_rows top rates) → IfOk result IsLawful → IfOk result (IsTableTo top law)
+pub IsTableTo-brake : (top : ℕ) (law : Law) (rates : List Row) (result : Result BandTable StockFault) → result ≡ lawful_table brake_key law (brake_rows top rates) → IfOk result IsLawful → IfOk result (IsTableTo top law)
 IsTableTo-brake top law rates = IsTableTo-read 7 top law (λ k. brake_loss (curve_value rates k))
 
-pub IsStrong-brake : (top : ℕ) (law : Law) (rates : List Row) (result : Result BandTable StockFault) → result ≡ lawful_table 7 law (brake_rows top rates) → IsCurveTo top rates
+pub IsStrong-brake : (top : ℕ) (law : Law) (rates : List Row) (result : Result BandTable StockFault) → result ≡ lawful_table brake_key law (brake_rows top rates) → IsCurveTo top rates
     → All (λ r. 50 ≤ r.value) rates → IfOk result (IsStrong top)
 IsStrong-brake top law rates (Err fault) e c strong = tt
 IsStrong-brake top law rates (Ok table) e c strong = λ k h.
-    let same = lawful_table-ok 7 law (brake_rows top rates) (Ok table) table e refl in
+    let same = lawful_table-ok brake_key law (brake_rows top rates) (Ok table) table e refl in
     rw (same, at_speed (λ j. brake_loss (curve_value rates j)) top k h) (brake_loss-least (curve_value rates k) (IsValue-at 50 top rates k c strong h))

@@ -2,6 +2,7 @@
 use Rattle.std.specs.Prelude.{ℕ, ◌≡◌, ◌+◌, ◌-◌, ◌≤◌, ◌<◌, Bool, true, ◌==◌, ◌&&◌, nat_lt, nat_le, List, [], ◌∷◌, drop, length, map, slice_index, All, ℤ, pos}
 use Rattle.std.specs.List.{find, range_with_len, zip}
 use Rattle.std.specs.Option.{option_map_or}
+use Rattle.unit_rules.specs.Limits.{greatest_speed}
 use Rattle.run_rules.specs.Grids.{value_between}
 use Rattle.stock_tables.specs.declared.curve.Row.{Row}
 
@@ -46,7 +47,7 @@ values_to top rows = map (curve_value rows) (range_with_len 0 (top + 1))
 
 -- a row within the ranges of every table
 pub record IsRow (r : Row) : Type 0 where
-  pub slow : r.kmh ≤ 500
+  pub slow : r.kmh ≤ greatest_speed
   pub small : r.value ≤ 3000000
 
 -- rows of a curve: two or more, at rising speeds from 0 on

@@ -1,6 +1,7 @@
--- What a key of a stock file holds, or the least rule that it breaks: 1 it is missing, 2 its type or shape, 3 a range, 4 the order of its rows.
+-- What a key of a stock file holds, or the least rule that it breaks.
 use Rattle.std.specs.Prelude.{ℕ, if◌then◌else◌, List, [], ◌∷◌, Option, Some, None, option_map, option_and_then, Result, Ok, Err, ℤ}
 use Rattle.std.specs.Option.{ok_or, option_zip}
+use Rattle.unit_rules.specs.Limits.{greatest_speed}
 use Rattle.unit_rules.specs.Numeral.{within}
 use Rattle.toml.specs.Data.{Data, Items, no_items, item, as_integer, as_array}
 use Rattle.stock_tables.specs.declared.curve.Row.{Row}
@@ -8,6 +9,7 @@ use Rattle.stock_tables.specs.declared.document.KeyFault.{KeyFault}
 use Rattle.stock_tables.specs.declared.motion.Resistance.{Resistance}
 use Rattle.stock_tables.specs.declared.document.KeyFault.TheVariants.{Rule}
 use Rattle.stock_tables.specs.Curve.{are_in_order}
+use Rattle.stock_tables.specs.Rules.{missing, out_of_order, out_of_range, wrong_shape}
 use Rattle.stock_tables.specs.Steps.{◌>>=◌}
 
 -- what `f` gives of each element, where it gives something of all
@@ -34,21 +36,21 @@ pair_of d = option_and_then pair_in (elements d)
 -- the integer from low to high that a key holds
 abbrev pub key_number : ℕ → ℕ → Option Data → Result ℕ KeyFault
 key_number low high key = do
-  value ← ok_or key (Rule 1)
-  number ← ok_or (as_integer value) (Rule 2)
-  ok_or (within low high number) (Rule 3)
+  value ← ok_or key (Rule missing)
+  number ← ok_or (as_integer value) (Rule wrong_shape)
+  ok_or (within low high number) (Rule out_of_range)
 
 -- a row of a pair, where its speed is up to 500 km/h and its value from low to high
 abbrev pub row_in : ℕ → ℕ → ℤ × ℤ → Option Row
-row_in low high pair = option_map (λ r. record { kmh = r.0; value = r.1 }) (option_zip (within 0 500 pair.0) (within low high pair.1))
+row_in low high pair = option_map (λ r. record { kmh = r.0; value = r.1 }) (option_zip (within 0 greatest_speed pair.0) (within low high pair.1))
 
 -- the rows that a key holds, whose values are from low to high and whose last speed is the top speed
 abbrev pub key_rows : ℕ → ℕ → ℕ → Option Data → Result (List Row) KeyFault
 key_rows low high top key = do
-  value ← ok_or key (Rule 1)
-  pairs ← ok_or (option_and_then (each pair_of) (elements value)) (Rule 2)
-  rows ← ok_or (each (row_in low high) pairs) (Rule 3)
-  if are_in_order top rows then Ok rows else Err (Rule 4)
+  value ← ok_or key (Rule missing)
+  pairs ← ok_or (option_and_then (each pair_of) (elements value)) (Rule wrong_shape)
+  rows ← ok_or (each (row_in low high) pairs) (Rule out_of_range)
+  if are_in_order top rows then Ok rows else Err (Rule out_of_order)
 
 -- three integers
 abbrev pub three_in : List Data → Option (ℤ × (ℤ × ℤ))
@@ -64,6 +66,6 @@ resistance_from three =
 -- the resistance that a key holds
 abbrev pub key_resistance : Option Data → Result Resistance KeyFault
 key_resistance key = do
-  value ← ok_or key (Rule 1)
-  three ← ok_or (option_and_then three_in (elements value)) (Rule 2)
-  ok_or (resistance_from three) (Rule 3)
+  value ← ok_or key (Rule missing)
+  three ← ok_or (option_and_then three_in (elements value)) (Rule wrong_shape)
+  ok_or (resistance_from three) (Rule out_of_range)

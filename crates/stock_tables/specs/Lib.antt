@@ -2,6 +2,7 @@ pub mod Curve
 pub mod Key
 pub mod Keys
 pub mod Motion
+pub mod Rules
 pub mod Steps
 pub mod Stock
 pub mod StockFile

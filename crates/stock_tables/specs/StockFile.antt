@@ -3,6 +3,7 @@ use Rattle.std.specs.Prelude.{ℕ, not, if◌then◌else◌, List, codes, Option
 use Rattle.std.specs.List.{find, range_with_len}
 use Rattle.std.specs.Option.{ok_or}
 use Rattle.std.specs.Str.{is_utf8}
+use Rattle.unit_rules.specs.Limits.{greatest_speed, longest_train}
 use Rattle.toml.specs.Data.{Members, get_member}
 use Rattle.toml.specs.Parse.{parse_document}
 use Rattle.run_rules.specs.Grids.{top_of}
@@ -16,8 +17,9 @@ use Rattle.stock_tables.specs.declared.document.KeyFault.TheVariants as key_faul
 use Rattle.stock_tables.specs.declared.keys.Keys.{Keys}
 use Rattle.stock_tables.specs.Key.{key_number, key_resistance, key_rows}
 use Rattle.stock_tables.specs.Motion.{brake_rows, moved_mass, push_rows}
+use Rattle.stock_tables.specs.Rules.{brake_key, effort_key, length_key, mass_key, resistance_key, rotating_key, top_key}
 use Rattle.stock_tables.specs.Steps.{◌>>=◌}
-use Rattle.stock_tables.specs.Stock.{StockTable}
+use Rattle.stock_tables.specs.Stock.{StockView}
 
 -- the document of a file: of bytes that are UTF-8 and a TOML text
 abbrev pub document_of : List ℕ → Result Members StockFault
@@ -32,13 +34,13 @@ at_key number (Err key_fault.Memory) = Err fault.Memory
 -- the values of the keys, or the first one that breaks a rule
 abbrev pub keys_of : Members → Result Keys StockFault
 keys_of document = do
-  mass ← at_key 1 (key_number 1000 20000000 (get_member (codes "mass") document))
-  rotating ← at_key 2 (key_number 0 300 (get_member (codes "rotating") document))
-  length ← at_key 3 (key_number 1 5000 (get_member (codes "length") document))
-  top ← at_key 4 (key_number 1 500 (get_member (codes "top") document))
-  effort ← at_key 5 (key_rows 0 3000000 top (get_member (codes "effort") document))
-  resistance ← at_key 6 (key_resistance (get_member (codes "resistance") document))
-  brake ← at_key 7 (key_rows 50 3000 top (get_member (codes "brake") document))
+  mass ← at_key mass_key (key_number 1000 20000000 (get_member (codes "mass") document))
+  rotating ← at_key rotating_key (key_number 0 300 (get_member (codes "rotating") document))
+  length ← at_key length_key (key_number 1 longest_train (get_member (codes "length") document))
+  top ← at_key top_key (key_number 1 greatest_speed (get_member (codes "top") document))
+  effort ← at_key effort_key (key_rows 0 3000000 top (get_member (codes "effort") document))
+  resistance ← at_key resistance_key (key_resistance (get_member (codes "resistance") document))
+  brake ← at_key brake_key (key_rows 50 3000 top (get_member (codes "brake") document))
   Ok (record { mass = mass; rotating = rotating; length = length; top = top; effort = effort; resistance = resistance; brake = brake })
 
 -- the table of the key with that number, or the least speed from which its values break the law
@@ -52,10 +54,10 @@ lawful_table number law rows =
     (find (λ k. not (keeps_law_at law rows k)) (range_with_len 0 (top_of rows)))
 
 -- the stock that the values of the keys describe
-abbrev pub stock_of : Keys → Result StockTable StockFault
+abbrev pub stock_of : Keys → Result StockView StockFault
 stock_of keys = do
-  push ← lawful_table 5 (Drop (moved_mass keys.mass keys.rotating)) (push_rows keys.top keys.effort keys.resistance)
-  brake ← lawful_table 7 Climb (brake_rows keys.top keys.brake)
+  push ← lawful_table effort_key (Drop (moved_mass keys.mass keys.rotating)) (push_rows keys.top keys.effort keys.resistance)
+  brake ← lawful_table brake_key Climb (brake_rows keys.top keys.brake)
   Ok (record {
     mass = keys.mass;
     moved_mass = moved_mass keys.mass keys.rotating;
@@ -66,7 +68,7 @@ stock_of keys = do
   })
 
 -- what a file reads as: its stock, or its first fault
-abbrev pub read_as_stock : List ℕ → Result StockTable StockFault
+abbrev pub read_as_stock : List ℕ → Result StockView StockFault
 read_as_stock bytes = do
   document ← document_of bytes
   keys ← keys_of document

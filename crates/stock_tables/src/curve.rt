@@ -1,6 +1,7 @@
 //! Curves: values by speed, straight between the rows of a table.
 
 ghost use Rattle.std.specs.Prelude.{◌≡◌, ◌+◌, ◌≤◌, ◌<◌, pos, ◌*ℤ◌, unsigned_abs, Some, None, if◌then◌else◌, All, IfOk, IfSome, slice_index};
+ghost use Rattle.unit_rules.specs.Limits.{greatest_speed};
 ghost use Rattle.unit_rules.specs.Quotients.{floor_div};
 ghost use Rattle.stock_tables.specs.Walk.{IsPassed};
 ghost use Rattle.stock_tables.specs.Curve.{IsCurve, IsCurveTo, IsRow, are_in_order, is_rising, last_speed, speeds, value_on, values_to};
@@ -59,7 +60,7 @@ fn part_of(rise: i64, part: u32, all: u32) -> i64
     requires small { unsigned_abs rise ≤ 3000000 }
     requires inside { part ≤ all }
     requires some { 0 < all }
-    requires few { all ≤ 500 }
+    requires few { all ≤ greatest_speed }
     ensures { result ≡ floor_div (rise *ℤ pos part) all }
 {
     (rise * i64::from(part)).div_euclid(i64::from(all))

@@ -14,9 +14,10 @@ ghost use Rattle.stock_tables.specs.declared.document.KeyFault.TheVariants.{Memo
 use crate::StockFault;
 use crate::curve::{Curve, Row};
 use crate::motion::Resistance;
+use crate::rules::{MISSING, OUT_OF_ORDER, OUT_OF_RANGE, WRONG_SHAPE};
 use std::alloc::{AllocError, Global};
 use toml::{Table, Value};
-use unit_rules::within;
+use unit_rules::{GREATEST_SPEED, within};
 
 /// Why a key isn't read.
 #[derive(Debug, Drop)]
@@ -64,14 +65,14 @@ pub(crate) fn key_number(document: &Table, key: &str, low: u32, high: u32) -> Re
     ensures ranges { IfOk result (λ n. (low ≤ n) × (n ≤ high)) }
 {
     let Some(value) = find(document, key) else {
-        return Err(KeyFault::Rule(1));
+        return Err(KeyFault::Rule(MISSING));
     };
     let Some(number) = value.as_integer() else {
-        return Err(KeyFault::Rule(2));
+        return Err(KeyFault::Rule(WRONG_SHAPE));
     };
     match within(low, high, number) {
         Some(number) => Ok(number),
-        None => Err(KeyFault::Rule(3)),
+        None => Err(KeyFault::Rule(OUT_OF_RANGE)),
     }
 }
 
@@ -90,17 +91,17 @@ pub(crate) fn key_curve(
     ensures least { IfOk result (All (λ r. values.0 ≤ r.value)) }
 {
     let Some(value) = find(document, key) else {
-        return Err(KeyFault::Rule(1));
+        return Err(KeyFault::Rule(MISSING));
     };
     let Some(pairs) = pairs(alloc, value)? else {
-        return Err(KeyFault::Rule(2));
+        return Err(KeyFault::Rule(WRONG_SHAPE));
     };
     let Some(rows) = rows(alloc, &pairs, values.0, values.1)? else {
-        return Err(KeyFault::Rule(3));
+        return Err(KeyFault::Rule(OUT_OF_RANGE));
     };
     match Curve::new(rows, top) {
         Some(curve) => Ok(curve),
-        None => Err(KeyFault::Rule(4)),
+        None => Err(KeyFault::Rule(OUT_OF_ORDER)),
     }
 }
 
@@ -149,7 +150,7 @@ fn row_in(pair: (i64, i64), low: u32, high: u32) -> Option<Row>
     ensures ranges { IfSome result IsRow }
     ensures least { IfSome result (λ r. low ≤ r.value) }
 {
-    let kmh = within(0, 500, pair.0)?;
+    let kmh = within(0, GREATEST_SPEED, pair.0)?;
     let value = within(low, high, pair.1)?;
     Some(Row { kmh, value })
 }
@@ -213,13 +214,13 @@ pub(crate) fn key_resistance(document: &Table, key: &str) -> Result<Resistance, 
     ensures ranges { IfOk result IsResistance }
 {
     let Some(value) = find(document, key) else {
-        return Err(KeyFault::Rule(1));
+        return Err(KeyFault::Rule(MISSING));
     };
     let Some(three) = three(value) else {
-        return Err(KeyFault::Rule(2));
+        return Err(KeyFault::Rule(WRONG_SHAPE));
     };
     match resistance_from(three) {
         Some(resistance) => Ok(resistance),
-        None => Err(KeyFault::Rule(3)),
+        None => Err(KeyFault::Rule(OUT_OF_RANGE)),
     }
 }

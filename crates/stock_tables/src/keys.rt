@@ -10,8 +10,12 @@ use crate::StockFault;
 use crate::curve::Curve;
 use crate::document::{KeyFault, key_curve, key_number, key_resistance};
 use crate::motion::Resistance;
+use crate::rules::{
+    BRAKE_KEY, EFFORT_KEY, LENGTH_KEY, MASS_KEY, RESISTANCE_KEY, ROTATING_KEY, TOP_KEY,
+};
 use std::alloc::Global;
 use toml::Table;
+use unit_rules::{GREATEST_SPEED, LONGEST_TRAIN};
 
 /// The values of the keys.
 #[derive(Drop)]
@@ -48,13 +52,19 @@ pub(crate) fn read_keys(alloc: Global, document: &Table) -> Result<Keys, StockFa
     ensures value { Gives (Err StockFault.Memory) (keys_of (table_view document.now)) result }
     ensures ranges { IfOk result AreKeys }
 {
-    let mass = at_key(1, key_number(document, "mass", 1000, 20_000_000))?;
-    let rotating = at_key(2, key_number(document, "rotating", 0, 300))?;
-    let length = at_key(3, key_number(document, "length", 1, 5000))?;
-    let top = at_key(4, key_number(document, "top", 1, 500))?;
-    let effort = at_key(5, key_curve(alloc, document, "effort", (0, 3_000_000), top))?;
-    let resistance = at_key(6, key_resistance(document, "resistance"))?;
-    let brake = at_key(7, key_curve(alloc, document, "brake", (50, 3000), top))?;
+    let mass = at_key(MASS_KEY, key_number(document, "mass", 1000, 20_000_000))?;
+    let rotating = at_key(ROTATING_KEY, key_number(document, "rotating", 0, 300))?;
+    let length = at_key(LENGTH_KEY, key_number(document, "length", 1, LONGEST_TRAIN))?;
+    let top = at_key(TOP_KEY, key_number(document, "top", 1, GREATEST_SPEED))?;
+    let effort = at_key(
+        EFFORT_KEY,
+        key_curve(alloc, document, "effort", (0, 3_000_000), top),
+    )?;
+    let resistance = at_key(RESISTANCE_KEY, key_resistance(document, "resistance"))?;
+    let brake = at_key(
+        BRAKE_KEY,
+        key_curve(alloc, document, "brake", (50, 3000), top),
+    )?;
     Ok(Keys {
         mass,
         rotating,

@@ -6,15 +6,21 @@ mod curve;
 mod document;
 mod keys;
 mod motion;
+mod rules;
 mod stock;
 
-ghost use Rattle.std.specs.Prelude.{◌≡◌, Err};
+ghost use Rattle.std.specs.Prelude.{◌≡◌, Err, IfOk};
 ghost use Rattle.unit_rules.specs.Memory.{Gives};
+ghost use Rattle.stock_tables.specs.Stock.{IsStock};
 ghost use Rattle.stock_tables.specs.StockFile.{read_as_stock};
 ghost use Rattle.stock_tables.specs.declared.StockFault.TheVariants.{Memory as OutOfMemory};
 
 use crate::document::read_document;
 use crate::keys::read_keys;
+pub use rules::{
+    BRAKE_KEY, BRAKE_LAW, EFFORT_KEY, EFFORT_LAW, LENGTH_KEY, MASS_KEY, MISSING, OUT_OF_ORDER,
+    OUT_OF_RANGE, RESISTANCE_KEY, ROTATING_KEY, TOP_KEY, WRONG_SHAPE,
+};
 use std::alloc::{AllocError, Global};
 pub use stock::Stock;
 use thiserror::Error;
@@ -28,7 +34,8 @@ pub enum StockFault {
     /// The first key that breaks a rule, and the least rule that it breaks.
     #[error("key {key} breaks rule {rule}")]
     Key { key: u32, rule: u32 },
-    /// The table of that key, 5 or 7, breaks its law first from `k` km/h to the next.
+    /// The table of that key, [`EFFORT_KEY`] or [`BRAKE_KEY`], breaks its law first from `k` km/h to
+    /// the next.
     #[error("table {table} breaks its law from {k} km/h on")]
     Law { table: u32, k: u32 },
     #[error("out of memory")]
@@ -62,7 +69,8 @@ impl From<AllocError> for StockFault {
 /// the top speed. Last come the laws of the tables: from `k` km/h to the next the push drops by at
 /// most 10000·(2k+1) times the moved mass, and the braking climbs by at most 10000·(2k+1).
 pub fn read_stock(alloc: Global, bytes: &[u8]) -> Result<Stock, StockFault>
-    ensures { Gives (Err StockFault.Memory) (read_as_stock bytes.now) result }
+    ensures stock { Gives (Err StockFault.Memory) (read_as_stock bytes.now) result }
+    ensures kept { IfOk result IsStock }
 {
     let document = read_document(alloc, bytes)?;
     let keys = read_keys(alloc, &document)?;

@@ -5,6 +5,7 @@
 
 ghost use Rattle.std.specs.Prelude.{◌≡◌, ℕ, ◌≤◌, ◌<◌, ◌-◌, ◌+◌, pos, ◌≤ℤ◌, length, map};
 ghost use Rattle.std.specs.List.{range_with_len};
+ghost use Rattle.unit_rules.specs.Limits.{greatest_speed};
 ghost use Rattle.run_rules.specs.Grids.{row, top_of};
 ghost use Rattle.stock_tables.specs.Motion.{IsResistance, brake_loss, moved_mass, net_push, resistance_at};
 
@@ -23,7 +24,7 @@ pub(crate) struct Resistance {
 // The resistance at a speed, in mN.
 fn resistance_at(resistance: Resistance, kmh: u32) -> u64
     requires resistance { IsResistance resistance }
-    requires slow { kmh ≤ 500 }
+    requires slow { kmh ≤ greatest_speed }
     ensures value { result ≡ resistance_at resistance kmh }
     ensures small { result ≤ 256000000000 }
 {

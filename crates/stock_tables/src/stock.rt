@@ -7,6 +7,7 @@ ghost use Rattle.unit_rules.specs.Memory.{Gives};
 ghost use Rattle.stock_tables.specs.Curve.{IsCurveTo};
 ghost use Rattle.stock_tables.specs.Keys.{AreKeys};
 ghost use Rattle.stock_tables.specs.Motion.{IsResistance, brake_rows, push_rows};
+ghost use Rattle.stock_tables.specs.Rules.{brake_key, effort_key};
 ghost use Rattle.stock_tables.specs.Stock.{IsStock, IsStrong, IsTableTo};
 ghost use Rattle.stock_tables.specs.StockFile.{lawful_table, stock_of};
 
@@ -14,6 +15,7 @@ use crate::StockFault;
 use crate::curve::Curve;
 use crate::keys::Keys;
 use crate::motion::{Resistance, brake_rows, moved_mass, push_rows};
+use crate::rules::{BRAKE_KEY, EFFORT_KEY};
 use std::alloc::Global;
 use std::marker::Model;
 use table_laws::{Bands, Law, LawFault};
@@ -30,9 +32,9 @@ pub struct Stock {
 }
 
 impl Model for Stock {
-    ghost use Rattle.stock_tables.specs.Stock.{IsStock, StockTable};
+    ghost use Rattle.stock_tables.specs.Stock.{IsStock, StockView};
 
-    ghost Value = { StockTable };
+    ghost Value = { StockView };
 
     ghost view = { λ s. record {
       mass = s.mass;
@@ -89,12 +91,12 @@ fn push_of(
     requires resistance { IsResistance resistance }
     requires some { 1 ≤ top }
     ensures value { Gives (Err StockFault.Memory)
-        (lawful_table 5 (Drops moved_mass) (push_rows top effort.now resistance)) result }
+        (lawful_table effort_key (Drops moved_mass) (push_rows top effort.now resistance)) result }
     ensures kept { IfOk result (IsTableTo top (Drops moved_mass)) }
 {
     let efforts = effort.values_to(alloc, top)?;
     let law = Law::Drop { per: moved_mass };
-    lawful_table(5, law, push_rows(efforts, resistance))
+    lawful_table(EFFORT_KEY, law, push_rows(efforts, resistance))
 }
 
 // The table of braking.
@@ -103,12 +105,12 @@ fn brake_of(alloc: Global, top: u32, rates: &Curve) -> Result<Bands, StockFault>
     requires strong { All (λ r. 50 ≤ r.value) rates.now }
     requires some { 1 ≤ top }
     ensures value { Gives (Err StockFault.Memory)
-        (lawful_table 7 Climb (brake_rows top rates.now)) result }
+        (lawful_table brake_key Climb (brake_rows top rates.now)) result }
     ensures kept { IfOk result (IsTableTo top Climb) }
     ensures strong { IfOk result (IsStrong top) }
 {
     let rates = rates.values_to(alloc, top)?;
-    lawful_table(7, Law::Climb, brake_rows(rates))
+    lawful_table(BRAKE_KEY, Law::Climb, brake_rows(rates))
 }
 
 impl Stock {
@@ -116,7 +118,8 @@ impl Stock {
     /// its law.
     pub(crate) fn new(alloc: Global, keys: Keys) -> Result<Stock, StockFault>
         requires { AreKeys keys }
-        ensures { Gives (Err StockFault.Memory) (stock_of keys) result }
+        ensures stock { Gives (Err StockFault.Memory) (stock_of keys) result }
+        ensures kept { IfOk result IsStock }
     {
         let moved_mass = moved_mass(keys.mass, keys.rotating);
         let push = push_of(alloc, keys.top, &keys.effort, keys.resistance, moved_mass)?;

@@ -2,6 +2,7 @@ use Rattle.std.proofs.Common.{◌≡◌, ℤ, List, arith, ap, ◌∙◌, inr}
 use Rattle.std.proofs.lemmas.Int.{ints}
 use Rattle.table_laws.specs.declared.Law.TheVariants.{Climb}
 use Rattle.stock_tables.specs.Motion.{brake_rows}
+use Rattle.stock_tables.specs.Rules.{brake_key}
 use Rattle.stock_tables.specs.StockFile.{lawful_table}
 use Rattle.stock_tables.proofs.MotionFacts.{IsStrong-brake, IsTable-brake, IsTableTo-brake, brake_rows-made}
 use Rattle.stock_tables.proofs.ValueFacts.{IsValue-row}
@@ -22,10 +23,10 @@ lawful_table-requires c =
     rw made (IsTable-brake c.args.top c.args.rates.now c.requires.some c.requires.rates c.requires.strong)
 
 -- the table is read as that of the rates at each whole km/h
-table-is : (c : goal.After-lawful_table) → c.lawful_table.result ≡ lawful_table 7 Climb (brake_rows c.args.top c.args.rates.now)
+table-is : (c : goal.After-lawful_table) → c.lawful_table.result ≡ lawful_table brake_key Climb (brake_rows c.args.top c.args.rates.now)
 table-is c =
     let made = brake_rows-made c.args.top c.args.rates.now _ _ c.in_ok-rates.ensures.value c.brake_rows.ensures in
-    c.lawful_table.ensures.value ∙ ap (λ (q : List ℤ). lawful_table 7 Climb q) made
+    c.lawful_table.ensures.value ∙ ap (λ (q : List ℤ). lawful_table brake_key Climb q) made
 
 pub returns-clause-value : goal.returns-clause-value
 returns-clause-value c = inr (table-is c)

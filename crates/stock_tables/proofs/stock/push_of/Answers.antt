@@ -1,6 +1,7 @@
 use Rattle.std.proofs.Common.{◌≡◌, ℤ, List, arith, ap, ◌∙◌, inr}
 use Rattle.table_laws.specs.declared.Law.TheVariants.{Drop}
 use Rattle.stock_tables.specs.Motion.{push_rows}
+use Rattle.stock_tables.specs.Rules.{effort_key}
 use Rattle.stock_tables.specs.StockFile.{lawful_table}
 use Rattle.stock_tables.proofs.MotionFacts.{IsTable-push, IsTableTo-push, push_rows-made}
 use Rattle.stock_tables.proofs.ValueFacts.{IsValue-row, length-values, top-slow}
@@ -26,10 +27,10 @@ lawful_table-requires c =
     rw made (IsTable-push c.args.top c.args.effort.now c.args.resistance c.requires.some c.requires.effort c.requires.resistance)
 
 -- the table is read as that of the effort less the resistance at each whole km/h
-table-is : (c : goal.After-lawful_table) → c.lawful_table.result ≡ lawful_table 5 (Drop c.args.moved_mass) (push_rows c.args.top c.args.effort.now c.args.resistance)
+table-is : (c : goal.After-lawful_table) → c.lawful_table.result ≡ lawful_table effort_key (Drop c.args.moved_mass) (push_rows c.args.top c.args.effort.now c.args.resistance)
 table-is c =
     let made = push_rows-made c.args.top c.args.effort.now c.args.resistance _ _ c.in_ok-efforts.ensures.value c.push_rows.ensures in
-    c.lawful_table.ensures.value ∙ ap (λ (q : List ℤ). lawful_table 5 (Drop c.args.moved_mass) q) made
+    c.lawful_table.ensures.value ∙ ap (λ (q : List ℤ). lawful_table effort_key (Drop c.args.moved_mass) q) made
 
 pub returns-clause-value : goal.returns-clause-value
 returns-clause-value c = inr (table-is c)

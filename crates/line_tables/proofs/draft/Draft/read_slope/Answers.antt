@@ -13,9 +13,9 @@ returns-then-not-may_climb-clause-rule c =
     let x : FitsSigned w64 n.from = search rules in
     let y : FitsSigned w64 n.to = search rules in
     let z : FitsSigned w64 n.tenths = search rules in
-    let place = c.last_place-last.ensures.place in
-    gradient_rule-numbers c.args.self.now (fields_of c.args.row.now) n.from n.to n.tenths m.from m.to m.tenths false (sym c.len.ensures ∙ c.if-len-ne4.false) (rw c.field.ensures at n.ensures.whole) (rw c.field-2.ensures at n.ensures'.whole) (rw c.field-3.ensures at n.ensures''.whole)
-    (rw place at c.last_place-last.ensures.most) (rw (place, to_z-of_z w64 n.from x) at m.ensures.value) (rw (place, to_z-of_z w64 n.to y) at m.ensures'.value) (rw (to_z-of_z w64 n.tenths z) at m.ensures''.value) (sym c.may_climb.ensures ∙ c.if-not-may_climb.true)
+    let position = c.last_position-last.ensures.position in
+    gradient_rule-numbers c.args.self.now (fields_of c.args.row.now) n.from n.to n.tenths m.from m.to m.tenths false (sym c.len.ensures ∙ c.if-len-ne4.false) n.ensures n.ensures' n.ensures''
+    (rw position at c.last_position-last.ensures.most) (rw (position, to_z-of_z w64 n.from x) at m.ensures.value) (rw (position, to_z-of_z w64 n.to y) at m.ensures'.value) (rw (to_z-of_z w64 n.tenths z) at m.ensures''.value) (sym c.may_climb.ensures ∙ c.if-not-may_climb.true)
 
 pub returns-clause-ok : goal.returns-clause-ok
 returns-clause-ok c =
@@ -24,9 +24,9 @@ returns-clause-ok c =
     let x : FitsSigned w64 n.from = search rules in
     let y : FitsSigned w64 n.to = search rules in
     let z : FitsSigned w64 n.tenths = search rules in
-    let place = c.last_place-last.ensures.place in
-    gradient_rule-numbers c.args.self.now (fields_of c.args.row.now) n.from n.to n.tenths m.from m.to m.tenths true (sym c.len.ensures ∙ c.if-len-ne4.false) (rw c.field.ensures at n.ensures.whole) (rw c.field-2.ensures at n.ensures'.whole) (rw c.field-3.ensures at n.ensures''.whole)
-    (rw place at c.last_place-last.ensures.most) (rw (place, to_z-of_z w64 n.from x) at m.ensures.value) (rw (place, to_z-of_z w64 n.to y) at m.ensures'.value) (rw (to_z-of_z w64 n.tenths z) at m.ensures''.value) (sym c.may_climb.ensures ∙ c.if-not-may_climb.false)
+    let position = c.last_position-last.ensures.position in
+    gradient_rule-numbers c.args.self.now (fields_of c.args.row.now) n.from n.to n.tenths m.from m.to m.tenths true (sym c.len.ensures ∙ c.if-len-ne4.false) n.ensures n.ensures' n.ensures''
+    (rw position at c.last_position-last.ensures.most) (rw (position, to_z-of_z w64 n.from x) at m.ensures.value) (rw (position, to_z-of_z w64 n.to y) at m.ensures'.value) (rw (to_z-of_z w64 n.tenths z) at m.ensures''.value) (sym c.may_climb.ensures ∙ c.if-not-may_climb.false)
 
 pub returns-clause-follows : goal.returns-clause-follows
 returns-clause-follows c =

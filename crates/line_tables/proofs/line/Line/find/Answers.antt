@@ -2,7 +2,7 @@ use Rattle.std.proofs.lemmas.List.Elements.{All-contains}
 use Rattle.std.proofs.lemmas.Option.{IfSome_then}
 use Rattle.line_tables.specs.Points.{StandsOn}
 use Rattle.line_tables.proofs.PointFacts.{find_point-none, find_point-there}
-use Rattle.line_tables.proofs.table.Line.find.Goals as goal
+use Rattle.line_tables.proofs.line.Line.find.Goals as goal
 
 pub returns-clause-there : goal.returns-clause-there
 returns-clause-there c = rw (c.find.ensures, ← c.self.view_is) (find_point-there c.args.name.now c.self.inside.points)

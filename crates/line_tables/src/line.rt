@@ -2,7 +2,7 @@
 
 ghost use Rattle.std.specs.Prelude.{◌≡◌, ◌≢◌, ◌≤◌, All, Contains, IfNone, IfSome};
 ghost use Rattle.line_tables.specs.Points.{find_point};
-ghost use Rattle.line_tables.specs.Table.{IsLine};
+ghost use Rattle.line_tables.specs.Line.{IsLine};
 
 use crate::Name;
 use crate::points::Points;
@@ -33,9 +33,9 @@ pub struct Line {
 }
 
 impl Model for Line {
-    ghost use Rattle.line_tables.specs.Table.{IsLine, LineTable};
+    ghost use Rattle.line_tables.specs.Line.{IsLine, LineView};
 
-    ghost Value = { LineTable };
+    ghost Value = { LineView };
 
     ghost view = { λ l. record {
       name = l.name;
@@ -95,7 +95,8 @@ impl Line {
     }
 
     pub fn name(&self) -> &Name
-        ensures { result.now ≡ self.now.name }
+        ensures name { result.now ≡ self.now.name }
+        ensures kept { IsLine self.now }
     {
         &self.name
     }
@@ -103,14 +104,16 @@ impl Line {
     /// The slopes, each beginning where the one before it ends, or after that. Where there is none
     /// the line is level.
     pub fn slopes(&self) -> &[Slope]
-        ensures { result.now ≡ self.now.slopes }
+        ensures slopes { result.now ≡ self.now.slopes }
+        ensures kept { IsLine self.now }
     {
         self.slopes.as_slice()
     }
 
     /// The speed limits, in the order of the file.
     pub fn limits(&self) -> &[Zone]
-        ensures { result.now ≡ self.now.limits }
+        ensures limits { result.now ≡ self.now.limits }
+        ensures kept { IsLine self.now }
     {
         self.limits.as_slice()
     }
@@ -121,6 +124,7 @@ impl Line {
         ensures there { IfSome result (λ at. Contains self.now.points (name.now, at)) }
         ensures none { IfNone result (All (λ p. p.0 ≢ name.now) self.now.points) }
         ensures lies { IfSome result (λ at. at ≤ self.now.length) }
+        ensures kept { IsLine self.now }
     {
         self.points.find(name)
     }
