@@ -1,0 +1,4 @@
+pub mod BoundFacts
+pub mod DraftFacts
+pub mod FileFacts
+mod Rows
