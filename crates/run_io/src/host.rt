@@ -1,12 +1,12 @@
-//! A shelf, a source and a sink of the system. Each counts the errors of std. Of a file they tell no
-//! bytes.
+//! A shelf, a source and a sink of the system. Each counts the errors of std, and the shelf how often
+//! it was asked. Of a file they tell no bytes.
 
-ghost use Rattle.std.specs.Prelude.{◌≡◌, ◌≢◌, ◌≤◌, ◌<◌, ◌^◌, [], Some, IfErr, IfSome, OnOk, length, option_map, take};
+ghost use Rattle.std.specs.Prelude.{◌≡◌, ◌≢◌, ◌≤◌, ◌<◌, ◌^◌, [], None, Some, IfErr, IfSome, OnOk, length, option_map, take};
 ghost use Rattle.std.specs.Io.{ReadsAtMost};
 ghost use Rattle.std.specs.Io.KnownBytes.{ReadConsumes, WriteAppends};
 ghost use Rattle.run_io.specs.Fetches.{FetchCause, FetchCounts, Fetches};
 ghost use Rattle.run_io.specs.InHost.{host_shelf_told, host_sink_told, host_source_told};
-ghost use Rattle.run_io.specs.Told.{Counts, HasCause};
+ghost use Rattle.run_io.specs.Told.{Counts, HasCause, one_more};
 ghost use Rattle.run_io.specs.Writes.{TakesSome};
 
 use crate::{Failed, Fetch, Shelf, Sink, Source};
@@ -18,14 +18,20 @@ use std::rt::Files;
 #[derive(Drop)]
 pub struct HostShelf<R: Files> {
     rt: R,
+    asked: u64,
     faults: u64,
 }
 
 impl<R: Files> HostShelf<R> {
     pub fn new(rt: R) -> HostShelf<R>
-        ensures { (host_shelf_told result).faults ≡ 0 }
+        ensures told { host_shelf_told result ≡ record { holds = None; faults = 0 } }
+        ensures asked { result.asked ≡ 0 }
     {
-        HostShelf { rt, faults: 0 }
+        HostShelf {
+            rt,
+            asked: 0,
+            faults: 0,
+        }
     }
 }
 
@@ -71,6 +77,8 @@ fn fetch_left<S: Source>(file: &mut S, most: u64, into: &mut Vec<u8>) -> Result<
 impl<R: Files> Shelf for HostShelf<R> {
     ghost told = { host_shelf_told };
 
+    ghost asked = { λ s. s.asked };
+
     fn fetch(&mut self, name: &str, most: u64, into: &mut Vec<u8>) -> Result<(), Fetch>
         requires empty { into.old.items ≡ [] }
         requires small { most ≤ 2 ^ 40 }
@@ -80,7 +88,9 @@ impl<R: Files> Shelf for HostShelf<R> {
         ensures cause { FetchCause (host_shelf_told self.old) (host_shelf_told self.new) result }
         ensures counts { FetchCounts (host_shelf_told self.old) (host_shelf_told self.new)
             result }
+        ensures asks { self.new.asked ≡ one_more self.old.asked }
     {
+        self.asked = self.asked.saturating_add(1);
         let Ok(file) = fs::open(&self.rt, name) else {
             self.faults = self.faults.saturating_add(1);
             return Err(Fetch::Failed);

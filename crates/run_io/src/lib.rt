@@ -7,7 +7,7 @@ ghost use Rattle.std.specs.Prelude.{◌≡◌, ℕ, ◌^◌, ◌<◌, ◌≤◌,
 ghost use Rattle.std.specs.Io.{ReadsAtMost};
 ghost use Rattle.std.specs.Io.KnownBytes.{ReadConsumes, WriteAppends};
 ghost use Rattle.run_io.specs.Fetches.{FetchCause, Fetches, Files};
-ghost use Rattle.run_io.specs.Told.{HasCause, Told, Writes, WritesFront};
+ghost use Rattle.run_io.specs.Told.{HasCause, Told, Writes, WritesFront, one_more};
 ghost use Rattle.run_io.specs.Writes.{TakesSome};
 
 mod blocks;
@@ -41,6 +41,9 @@ pub trait Shelf {
     /// The files, where they are told, and how often the shelf has failed. No call changes the files.
     ghost told: { Self → Told Files };
 
+    /// How often it was asked for a file, up to the end of that count's type.
+    ghost asked: { Self → ℕ };
+
     /// Fetches a file of at most `most` bytes into an empty vector. After [`Fetch::TooLong`] there
     /// is one byte more, and after the other refusals nothing is said of `into`.
     fn fetch(&mut self, name: &str, most: u64, into: &mut Vec<u8>) -> Result<(), Fetch>
@@ -48,7 +51,8 @@ pub trait Shelf {
         requires small { most ≤ 2 ^ 40 }
         ensures files { (told self.new).holds ≡ (told self.old).holds }
         ensures bytes { Fetches (told self.old).holds name.now most result into.new.items }
-        ensures cause { FetchCause (told self.old) (told self.new) result };
+        ensures cause { FetchCause (told self.old) (told self.new) result }
+        ensures asks { asked self.new ≡ one_more (asked self.old) };
 }
 
 /// A source of input.

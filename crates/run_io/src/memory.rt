@@ -278,6 +278,8 @@ fn copy_file(file: &[u8], most: u64, into: &mut Vec<u8>) -> Result<(), Fetch>
 impl Shelf for MemShelf {
     ghost told = { shelf_told };
 
+    ghost asked = { λ s. s.calls };
+
     fn fetch(&mut self, name: &str, most: u64, into: &mut Vec<u8>) -> Result<(), Fetch>
         requires empty { into.old.items ≡ [] }
         requires small { most ≤ 2 ^ 40 }
@@ -287,6 +289,7 @@ impl Shelf for MemShelf {
         ensures fails { (result ≡ Err Fetch.Failed) ↔ Contains self.old.failing
             (one_more self.old.calls) }
         ensures after { ShelfAfter self.old self.new result }
+        ensures asks { self.new.calls ≡ one_more self.old.calls }
     {
         self.calls = self.calls.saturating_add(1);
         if self.failing.contains(&self.calls) {
