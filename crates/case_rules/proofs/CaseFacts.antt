@@ -2,13 +2,13 @@
 use Rattle.std.proofs.Common.{◌≡◌, ℕ, List, ℤ, length, Result, Ok, Err, IfOk, ap, refl, ◌∙◌}
 use Rattle.std.proofs.lemmas.List.FromFn.{length-map-range_with_len}
 use Rattle.limit_profile.specs.Profile.{Profile, caps}
-use Rattle.line_tables.specs.Table.{LineTable}
-use Rattle.stock_tables.specs.Stock.{StockTable}
+use Rattle.line_tables.specs.Line.{LineView}
+use Rattle.stock_tables.specs.Stock.{StockView}
 use Rattle.train_mean.specs.Gradients.{gradients_under, pull_of}
 use Rattle.case_rules.specs.Case.{train_pulls}
 
 -- a pull for each cell
-pub length-train_pulls : (line : LineTable) (stock : StockTable) (pulls : List ℤ) → pulls ≡ train_pulls line stock → length pulls ≡ line.length
+pub length-train_pulls : (line : LineView) (stock : StockView) (pulls : List ℤ) → pulls ≡ train_pulls line stock → length pulls ≡ line.length
 length-train_pulls line stock pulls e =
     rw (e, length-map-range_with_len (λ cell. pull_of stock.mass stock.length (gradients_under line.slopes stock.length cell)) 0 line.length) refl
 

@@ -2,14 +2,16 @@
 #![tactic(auto)]
 
 ghost use Rattle.std.specs.Prelude.{◌≡◌, ◌≤◌, All, IfOk};
-ghost use Rattle.case_rules.specs.Case.{case_caps, train_caps, train_pulls, train_rule};
+ghost use Rattle.case_rules.specs.Case.{case_caps, plan_caps, train_pulls, train_rule};
 ghost use Rattle.limit_profile.specs.Profile.{caps};
-ghost use Rattle.run_rules.specs.Steps.{IsPull};
+ghost use Rattle.plan_tables.specs.Plan.{PlanLiesOn};
+ghost use Rattle.run_rules.specs.StepRules.{IsPull};
 ghost use Rattle.step_rule.specs.Motion.{cells_of, kmh_of, step_rule_of};
 ghost use Rattle.unit_rules.specs.Zone.{LiesOn};
 
 use limit_profile::Limits;
 use line_tables::Line;
+use plan_tables::{Plan, bounds};
 use std::alloc::Global;
 use step_rule::Rule;
 use stock_tables::Stock;
@@ -76,13 +78,14 @@ pub fn limits_on(
     Limits::new(alloc, length, train, top, &zones, bounds)
 }
 
-/// The limits of a line for a train that stands at both its ends, without restrictions.
-pub fn standing_limits(alloc: Global, line: &Line, stock: &Stock) -> Result<Limits, Memory>
-    ensures caps { IfOk result (λ limits. caps limits ≡ train_caps line.now stock.now) }
+/// The limits of a train on a line by a plan, without restrictions.
+pub fn plan_limits(alloc: Global, line: &Line, stock: &Stock, plan: &Plan) -> Result<Limits, Memory>
+    requires { PlanLiesOn line.now.length plan.now }
+    ensures caps { IfOk result (λ limits.
+        caps limits ≡ plan_caps line.now stock.now plan.now) }
     ensures length { IfOk result (λ limits. limits.length ≡ line.now.length) }
     ensures top { IfOk result (λ limits. limits.top ≡ stock.now.top) }
 {
-    let last = line.length();
-    let bounds = [Bound { at: 0, most: 0 }, Bound { at: last, most: 0 }];
+    let bounds = bounds(alloc, plan, line.length())?;
     limits_on(alloc, line, stock, &[], &bounds)
 }

@@ -1,1 +1,2 @@
 mod BandFacts
+mod TimetableFacts

@@ -7,8 +7,11 @@ ghost use Rattle.run_io.specs.Texts.{numbers_text, piece};
 ghost use Rattle.run_io.specs.Told.{HasCause, Writes, WritesFront};
 ghost use Rattle.report_text.specs.Texts.{bands_line, bands_text, list_text, point_line, reach_text, speed_line, train_line};
 
+mod timetable;
+
 use run_io::{BLOCK, Block, Failed, ROW, Rows, Sink, write_rows};
 use stock_tables::Stock;
+pub use timetable::write_timetable;
 use unit_rules::Reach;
 
 /// Writes the numbers in decimal, one space between, and a line end.

@@ -1,13 +1,14 @@
 -- What holds of each form: it has one answer at most, and it is silent until it is served.
 use Rattle.std.proofs.Common.{ℕ, List, Option, Some, None}
+use Rattle.plan_tables.specs.Plan.{empty_plan}
 use Rattle.run_io.specs.Fetches.{Files}
 use Rattle.run_words.specs.Requests.{Request, request_of}
-use Rattle.run_words.specs.Requests.Request.{Caps, Stock, Rise, Brakes, Envelope}
+use Rattle.run_words.specs.Requests.Request.{Caps, Stock, Rise, Brakes, Envelope, Plan}
 use Rattle.run_cli.specs.FileLaws.{alone}
-use Rattle.run_cli.specs.Files.{refusal}
+use Rattle.run_cli.specs.Files.{case_names, refusal}
 use Rattle.run_cli.specs.Forms.{WordsAnswerOnce, meaning_of, meant_by}
 use Rattle.run_cli.specs.Meanings.{IsOnce, IsSilent, Meaning}
-use Rattle.run_cli.proofs.OnceFacts.{AnswersBy-once, ByBoth-once, ByLine-once, ByStock-once, Is-once, IsBrakes-once, IsEnvelope-once}
+use Rattle.run_cli.proofs.OnceFacts.{AnswersBy-once, ByBoth-once, ByCase-once, ByLine-once, ByStock-once, Is-once, IsBrakes-once, IsEnvelope-once, plan_answer-once}
 
 record IsLawful (m : Meaning) : Type 0 where
   once : (files : Files) (input : List ℕ) → IsOnce (m.answers files input)
@@ -24,7 +25,9 @@ form_facts (Some (Rise line stock kmh)) =
 form_facts (Some (Brakes line stock)) =
     record { once = λ files input. ByBoth-once line stock files _ IsBrakes-once; silent = (alone _ _ _ _).quiet }
 form_facts (Some (Envelope line stock)) =
-    record { once = λ files input. ByBoth-once line stock files _ IsEnvelope-once; silent = (alone _ _ _ _).quiet }
+    record { once = λ files input. ByBoth-once line stock files _ (λ table train. IsEnvelope-once table train empty_plan); silent = (alone _ _ _ _).quiet }
+form_facts (Some (Plan line stock plan kind)) =
+    record { once = λ files input. ByCase-once (case_names line stock plan) files _ (plan_answer-once kind); silent = (alone _ _ _ _).quiet }
 
 pub answers_once : WordsAnswerOnce
 answers_once words files input =

@@ -3,3 +3,4 @@ pub mod LoadFacts
 pub mod WalkFacts
 pub mod OnceFacts
 pub mod FormFacts
+mod TimeFacts

@@ -1,11 +1,14 @@
 -- Files that are loaded, and why others are not.
-use Rattle.std.proofs.Common.{◌≡◌, ◌⊎◌, ◌≤◌, ◌++◌, Bool, true, false, ℕ, List, [], ◌∷◌, length, Option, Some, None, Result, Ok, Err, IfOk, IfSome, refl, sym, ap, inl, inr, arith, ◌∙◌}
+use Rattle.std.proofs.Common.{◌≡◌, ◌⊎◌, ◌≤◌, ◌++◌, Bool, true, false, ℕ, List, [], ◌∷◌, length, Option, Some, None, Result, Ok, Err, IfErr, IfOk, IfSome, refl, sym, ap, inl, inr, arith, ◌∙◌}
 use Rattle.std.specs.Prelude.{nat_lt}
+use Rattle.line_tables.specs.Line.{LineView}
 use Rattle.run_io.specs.Fetches.{Files}
 use Rattle.run_io.specs.Told.{Told}
 use Rattle.unit_rules.specs.Memory.{Gives}
-use Rattle.run_cli.specs.Files.{Blames, BlamesFile, File, IsRefusal, IsTable, fault_in, fault_of, file_read, most_bytes, refusal, table_in, table_of}
+use Rattle.unit_rules.specs.Limits.{most_bytes}
+use Rattle.run_cli.specs.Files.{Blames, BlamesFile, File, IsRead, IsRefusal, Reading, fault_in, fault_of, file_read, line_reading, plan_fault_for, plan_file, plan_reading, refusal, table_in, table_of}
 use Rattle.run_cli.specs.Loads.{Fetched, IsReason, LoadStops, Loads, MayRefuse, file_named}
+use Rattle.run_cli.specs.Statuses.{plan_number}
 use Rattle.run_cli.specs.declared.status.Status.{Status}
 use Rattle.run_cli.specs.declared.status.Status.TheVariants.{Memory}
 use Rattle.run_cli.proofs.ServeFacts.{IfSome-along, IfSome-both}
@@ -76,6 +79,64 @@ Loads-behind a b old mid new s table result e h k = rw e (record { same = k.same
         reason (inl (is, rose)) = inl (is, omega (arith, h.later, rose))
         reason (inr first) = inr (IfSome-both old.holds _ _ _ (λ files none k. refusal-later files a b none ∙ k) h.loaded (rw h.same at first))
 
+-- where the first and those behind them are loaded, all are
+pub Loads-all : {T U V : Type 0} (a b : List File) (old mid new : Told Files) (x : T) (y : U) (z : V) → Loads a old mid (Ok x) → Loads b mid new (Ok y) → Loads (a ++ b) old new (Ok z)
+Loads-all a b old mid new x y z h k = record {
+  same = k.same ∙ h.same;
+  later = omega (arith, h.later, k.later);
+  loaded = IfSome-both old.holds _ _ _ (λ files none more. refusal-later files a b none ∙ more) h.loaded (rw h.same at k.loaded);
+  stopped = tt;
+}
+
+-- a file that is judged in another way, but alike where files are told, is loaded alike
+judged-alike : (files : Files) (number : ℕ) (name : List ℕ) (judge other : Files → List ℕ → Option Status) → ((bytes : List ℕ) → judge files bytes ≡ other files bytes)
+    → refusal files (record { number = number; name = name; judge = judge } ∷ []) ≡ refusal files (record { number = number; name = name; judge = other } ∷ [])
+judged-alike files number name judge other alike = at (files name) refl
+  where
+    at : (there : Option (List ℕ)) → files name ≡ there
+        → refusal files (record { number = number; name = name; judge = judge } ∷ []) ≡ refusal files (record { number = number; name = name; judge = other } ∷ [])
+    at None is = rw is refl
+    at (Some bytes) is = long (nat_lt most_bytes (length bytes)) refl
+      where
+        long : (b : Bool) → nat_lt most_bytes (length bytes) ≡ b
+            → refusal files (record { number = number; name = name; judge = judge } ∷ []) ≡ refusal files (record { number = number; name = name; judge = other } ∷ [])
+        long true more = rw (is, more) refl
+        long false less = rw (is, less, alike bytes) refl
+
+pub Loads-alike : {T : Type 0} (number : ℕ) (name : List ℕ) (judge other : Files → List ℕ → Option Status) (old new : Told Files) (result : Result T Status)
+    → IfSome old.holds (λ files. (bytes : List ℕ) → judge files bytes ≡ other files bytes) → Loads (record { number = number; name = name; judge = judge } ∷ []) old new result
+    → Loads (record { number = number; name = name; judge = other } ∷ []) old new result
+Loads-alike {T} number name judge other old new result alike h = record { same = h.same; later = h.later; loaded = loaded result h.loaded; stopped = stopped result h.stopped }
+  where
+    loaded : (r : Result T Status) → IfOk r (λ t. IfSome old.holds (λ files. refusal files (record { number = number; name = name; judge = judge } ∷ []) ≡ None))
+        → IfOk r (λ t. IfSome old.holds (λ files. refusal files (record { number = number; name = name; judge = other } ∷ []) ≡ None))
+    loaded (Ok t) k = IfSome-both old.holds _ _ _ (λ files same none. sym (judged-alike files number name judge other same) ∙ none) alike k
+    loaded (Err s) k = tt
+
+    reason : (s : Status) → IsReason (record { number = number; name = name; judge = judge } ∷ []) old new s → IsReason (record { number = number; name = name; judge = other } ∷ []) old new s
+    reason s (inl rose) = inl rose
+    reason s (inr first) = inr (IfSome-both old.holds _ _ _ (λ files same is. sym (judged-alike files number name judge other same) ∙ is) alike first)
+
+    stops : (s : Status) → LoadStops (record { number = number; name = name; judge = judge } ∷ []) old new s → LoadStops (record { number = number; name = name; judge = other } ∷ []) old new s
+    stops s (inl memory) = inl memory
+    stops s (inr refused) = inr (record { blames = refused.blames; reason = reason s refused.reason })
+
+    stopped : (r : Result T Status) → IfErr r (LoadStops (record { number = number; name = name; judge = judge } ∷ []) old new)
+        → IfErr r (LoadStops (record { number = number; name = name; judge = other } ∷ []) old new)
+    stopped (Ok t) k = tt
+    stopped (Err s) k = stops s k
+
+-- a plan file that was read for the line of a file is judged as that of the line's file
+plan-alike : (told : Option Files) (line_name : List ℕ) (line : LineView) → IsRead line_reading told line_name line
+    → IfSome told (λ files. (bytes : List ℕ) → fault_of ((plan_reading line).read bytes) ≡ plan_fault_for (table_in line_reading (files line_name)) bytes)
+plan-alike told line_name line at = IfSome-along told _ _ (λ files is bytes. rw is refl) at.same
+
+pub Loads-plan : {T : Type 0} (line_name name : List ℕ) (line : LineView) (old mid new : Told Files) (result : Result T Status) → mid.holds ≡ old.holds → IsRead line_reading old.holds line_name line
+    → Loads (file_read (plan_reading line) name ∷ []) mid new result → Loads (plan_file line_name name ∷ []) mid new result
+Loads-plan line_name name line old mid new result same at h =
+    Loads-alike plan_number name (λ files bytes. fault_of ((plan_reading line).read bytes)) (λ files bytes. plan_fault_for (table_in line_reading (files line_name)) bytes) mid new result
+    (rw same (plan-alike old.holds line_name line at)) h
+
 -- bytes of a file that are not too many
 fault_in-short : (files : Files) (f : File) (bytes : List ℕ) → length bytes ≤ most_bytes → fault_in files f (Some bytes) ≡ f.judge files bytes
 fault_in-short files f bytes short = grind (arith, short)
@@ -102,31 +163,31 @@ Loads-unfetched f old new s result e h = rw e (record { same = h.same; later = h
         reason (inr first) = inr (IfSome-along old.holds _ _ (λ files k. judged files (files f.name) refl k) first)
 
 -- what a reader gives for the bytes of a file, or its want of memory, loads the file or says why it is not loaded
-pub Loads-read : {T : Type 0} (number : ℕ) (reading : List ℕ → Result T Status) (name bytes : List ℕ) (old new : Told Files) {U : Type 0} (fetched : U) (result : Result T Status)
-    → MayRefuse number (reading bytes) → Loads (file_named number name ∷ []) old new (Ok fetched) → Fetched old.holds name bytes
-    → Gives (Err Memory) (reading bytes) result → Loads (file_read number reading name ∷ []) old new result
-Loads-read {T} number reading name bytes old new fetched result refuses h at (inl e) =
+pub Loads-read : {T : Type 0} (reading : Reading T) (name bytes : List ℕ) (old new : Told Files) {U : Type 0} (fetched : U) (result : Result T Status)
+    → MayRefuse reading.number (reading.read bytes) → Loads (file_named reading.number name ∷ []) old new (Ok fetched) → Fetched old.holds name bytes
+    → Gives (Err Memory) (reading.read bytes) result → Loads (file_read reading name ∷ []) old new result
+Loads-read {T} reading name bytes old new fetched result refuses h at (inl e) =
     rw e (record { same = h.same; later = h.later; loaded = tt; stopped = inl refl })
-Loads-read {T} number reading name bytes old new fetched result refuses h at (inr e) = by result e
+Loads-read {T} reading name bytes old new fetched result refuses h at (inr e) = by result e
   where
-    judged : (r : Result T Status) → r ≡ reading bytes → IfSome old.holds (λ files. refusal files (file_read number reading name ∷ []) ≡ fault_of r)
-    judged r is = IfSome-along old.holds _ _ (λ files there. refusal-one files (file_read number reading name) (fault_of r)
-        (rw there (fault_in-short files (file_read number reading name) bytes at.short ∙ ap fault_of (sym is)))) at.same
+    judged : (r : Result T Status) → r ≡ reading.read bytes → IfSome old.holds (λ files. refusal files (file_read reading name ∷ []) ≡ fault_of r)
+    judged r is = IfSome-along old.holds _ _ (λ files there. refusal-one files (file_read reading name) (fault_of r)
+        (rw there (fault_in-short files (file_read reading name) bytes at.short ∙ ap fault_of (sym is)))) at.same
 
-    by : (r : Result T Status) → r ≡ reading bytes → Loads (file_read number reading name ∷ []) old new r
+    by : (r : Result T Status) → r ≡ reading.read bytes → Loads (file_read reading name ∷ []) old new r
     by (Ok table) is = record { same = h.same; later = h.later; loaded = judged (Ok table) is; stopped = tt }
     by (Err s) is = record { same = h.same; later = h.later; loaded = tt; stopped = stops (rw (sym is) at refuses) }
       where
-        stops : (s ≡ Memory) ⊎ IsRefusal number s → LoadStops (file_read number reading name ∷ []) old new s
+        stops : (s ≡ Memory) ⊎ IsRefusal reading.number s → LoadStops (file_read reading name ∷ []) old new s
         stops (inl memory) = inl memory
         stops (inr refusal) = inr (record { blames = inl (inr refusal); reason = inr (judged (Err s) is) })
 
 -- and its table is that of the file
-pub IsTable-read : {T : Type 0} (reading : List ℕ → Result T Status) (name bytes : List ℕ) (told : Option Files) (result : Result T Status)
-    → Fetched told name bytes → Gives (Err Memory) (reading bytes) result → IfOk result (IsTable reading told name)
-IsTable-read reading name bytes told result at (inl e) = rw e tt
-IsTable-read {T} reading name bytes told (Ok table) at (inr e) = IfSome-along told _ _ (λ files there. is_table files there) at.same
+pub IsRead-given : {T : Type 0} (reading : Reading T) (name bytes : List ℕ) (told : Option Files) (result : Result T Status)
+    → IfOk result reading.keeps → Fetched told name bytes → Gives (Err Memory) (reading.read bytes) result → IfOk result (IsRead reading told name)
+IsRead-given reading name bytes told result kept at (inl e) = rw e tt
+IsRead-given {T} reading name bytes told (Ok table) kept at (inr e) = record { kept = kept; same = IfSome-along told _ _ (λ files there. is_table files there) at.same }
   where
     is_table : (files : Files) → files name ≡ Some bytes → table_in reading (files name) ≡ Some table
     is_table files there = rw there (ap table_of (sym e))
-IsTable-read reading name bytes told (Err s) at (inr e) = tt
+IsRead-given reading name bytes told (Err s) kept at (inr e) = tt

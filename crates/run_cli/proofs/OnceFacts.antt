@@ -1,18 +1,24 @@
 -- That there is one answer at most.
 use Rattle.std.proofs.Common.{◌≡◌, ℕ, List, length, Option, Some, None, sym, ap, subst, ◌∙◌, inl, inr, arith}
 use Rattle.std.proofs.lemmas.Grind.{same_number_lists}
-use Rattle.case_rules.specs.Case.{train_caps, train_rule}
-use Rattle.line_tables.specs.Table.{LineTable}
+use Rattle.case_rules.specs.Case.{plan_caps, train_rule}
+use Rattle.line_tables.specs.Line.{LineView}
+use Rattle.plan_tables.specs.Plan.{PlanView, empty_plan}
 use Rattle.report_text.specs.Texts.{list_text, reach_text}
+use Rattle.report_text.specs.Timetables.{timetable_text}
+use Rattle.allowances.specs.Rows.{rows_of}
 use Rattle.run_io.specs.Fetches.{Files}
 use Rattle.run_rules.proofs.RunFacts.{runs_or_stalls, stalls_once}
 use Rattle.run_rules.specs.Runs.{AtMost}
-use Rattle.stock_tables.specs.Stock.{StockTable}
+use Rattle.stock_tables.specs.Stock.{StockView}
 use Rattle.unit_rules.specs.declared.Reach.TheVariants as reach
 use Rattle.run_cli.specs.Brakes.{IsBrakes}
 use Rattle.run_cli.specs.Envelope.{IsEnvelope}
-use Rattle.run_cli.specs.FileForms.{ByBoth, ByLine, ByStock}
-use Rattle.run_cli.specs.Files.{line_reading, stock_reading, table_in}
+use Rattle.run_cli.specs.FileForms.{ByBoth, ByCase, ByLine, ByPlan, ByStock}
+use Rattle.run_cli.specs.Files.{CaseNames, line_reading, plan_reading, stock_reading, table_in}
+use Rattle.run_cli.specs.Plan.{IsTimetable, plan_answer}
+use Rattle.run_words.specs.declared.requests.Print.{Print}
+use Rattle.run_words.specs.declared.requests.Print.TheVariants as print
 use Rattle.run_cli.specs.Meanings.{Answer, AnswersBy, Is, IsOnce}
 use Rattle.run_cli.specs.declared.status.Status.{Status}
 use Rattle.run_cli.specs.declared.status.Status.TheVariants.{Stalled}
@@ -32,42 +38,66 @@ Some-same : {T : Type 0} (o : Option T) (x y : T) → o ≡ Some x → o ≡ Som
 unfolding some_or
 Some-same o x y e f = ap (some_or x) (sym e ∙ f)
 
-pub ByLine-once : (name : List ℕ) (files : Files) (next : LineTable → Answer) → ((table : LineTable) → IsOnce (next table)) → IsOnce (ByLine name next files)
+pub ByLine-once : (name : List ℕ) (files : Files) (next : LineView → Answer) → ((table : LineView) → IsOnce (next table)) → IsOnce (ByLine name next files)
 ByLine-once name files next once s r t u a b =
-    once a.0 s r t u a.2 (subst (λ (q : LineTable). next q r u) (Some-same (table_in line_reading (files name)) b.0 a.0 b.1 a.1) b.2)
+    once a.0 s r t u a.2 (subst (λ (q : LineView). next q r u) (Some-same (table_in line_reading (files name)) b.0 a.0 b.1 a.1) b.2)
 
-pub ByStock-once : (name : List ℕ) (files : Files) (next : StockTable → Answer) → ((table : StockTable) → IsOnce (next table)) → IsOnce (ByStock name next files)
+pub ByStock-once : (name : List ℕ) (files : Files) (next : StockView → Answer) → ((table : StockView) → IsOnce (next table)) → IsOnce (ByStock name next files)
 ByStock-once name files next once s r t u a b =
-    once a.0 s r t u a.2 (subst (λ (q : StockTable). next q r u) (Some-same (table_in stock_reading (files name)) b.0 a.0 b.1 a.1) b.2)
+    once a.0 s r t u a.2 (subst (λ (q : StockView). next q r u) (Some-same (table_in stock_reading (files name)) b.0 a.0 b.1 a.1) b.2)
 
-pub ByBoth-once : (line_name stock_name : List ℕ) (files : Files) (next : LineTable → StockTable → Answer) → ((table : LineTable) (train : StockTable) → IsOnce (next table train))
+pub ByBoth-once : (line_name stock_name : List ℕ) (files : Files) (next : LineView → StockView → Answer) → ((table : LineView) (train : StockView) → IsOnce (next table train))
     → IsOnce (ByBoth line_name stock_name next files)
 ByBoth-once line_name stock_name files next once =
     ByLine-once line_name files (λ table. ByStock stock_name (next table) files) (λ table. ByStock-once stock_name files (next table) (once table))
+
+pub ByPlan-once : (line : LineView) (name : List ℕ) (files : Files) (next : PlanView → Answer) → ((table : PlanView) → IsOnce (next table)) → IsOnce (ByPlan line name next files)
+ByPlan-once line name files next once s r t u a b =
+    once a.0 s r t u a.2 (subst (λ (q : PlanView). next q r u) (Some-same (table_in (plan_reading line) (files name)) b.0 a.0 b.1 a.1) b.2)
+
+pub ByCase-once : (names : CaseNames) (files : Files) (next : LineView → StockView → PlanView → Answer) → ((line : LineView) (stock : StockView) (plan : PlanView) → IsOnce (next line stock plan))
+    → IsOnce (ByCase names next files)
+ByCase-once names files next once =
+    ByBoth-once names.line names.stock files (λ line stock. ByPlan line names.plan (next line stock) files)
+    (λ line stock. ByPlan-once line names.plan files (next line stock) (once line stock))
 
 -- two lists of which each is at most the other are one
 AtMost-both : (a b : List ℕ) (n : ℕ) → length a ≡ n → length b ≡ n → AtMost a b n → AtMost b a n → a ≡ b
 AtMost-both a b n long same less more =
     same_number_lists a b (long ∙ sym same) (λ i l. let down = less i (omega (arith, long, l)) in let up = more i (omega (arith, long, l)) in omega (arith, down, up))
 
-pub IsBrakes-once : (table : LineTable) (train : StockTable) → IsOnce (IsBrakes table train)
+pub IsBrakes-once : (table : LineView) (train : StockView) → IsOnce (IsBrakes table train)
 IsBrakes-once table train s r t u a b =
     let h = a.is_list in
     let k = b.is_list in
-    let list = AtMost-both a.list b.list (length (train_caps table train)) h.keeps.same_points k.keeps.same_points (k.greatest a.list h.keeps) (h.greatest b.list k.keeps) in
+    let list = AtMost-both a.list b.list (length (plan_caps table train empty_plan)) h.keeps.same_points k.keeps.same_points (k.greatest a.list h.keeps) (h.greatest b.list k.keeps) in
     record { one_status = a.is.status_is ∙ sym b.is.status_is; one_text = a.is.text_is ∙ ap list_text list ∙ sym b.is.text_is }
 
-pub IsEnvelope-once : (table : LineTable) (train : StockTable) → IsOnce (IsEnvelope table train)
-IsEnvelope-once table train s r t u (inl a) (inl b) =
+pub IsEnvelope-once : (table : LineView) (train : StockView) (plan : PlanView) → IsOnce (IsEnvelope table train plan)
+IsEnvelope-once table train plan s r t u (inl a) (inl b) =
     let h = a.is_list in
     let k = b.is_list in
-    let list = AtMost-both a.list b.list (length (train_caps table train)) h.run.same_points k.run.same_points (k.greatest a.list h.run) (h.greatest b.list k.run) in
+    let list = AtMost-both a.list b.list (length (plan_caps table train plan)) h.run.same_points k.run.same_points (k.greatest a.list h.run) (h.greatest b.list k.run) in
     record { one_status = a.is.status_is ∙ sym b.is.status_is; one_text = a.is.text_is ∙ ap list_text list ∙ sym b.is.text_is }
-IsEnvelope-once table train s r t u (inl a) (inr b) = absurd (runs_or_stalls (train_rule table train) (train_caps table train) a.list b.point a.is_list.run b.is_stalled)
-IsEnvelope-once table train s r t u (inr a) (inl b) = absurd (runs_or_stalls (train_rule table train) (train_caps table train) b.list a.point b.is_list.run a.is_stalled)
-IsEnvelope-once table train s r t u (inr a) (inr b) =
-    let point = stalls_once (train_rule table train) (train_caps table train) a.point b.point a.is_stalled b.is_stalled in
+IsEnvelope-once table train plan s r t u (inl a) (inr b) = absurd (runs_or_stalls (train_rule table train) (plan_caps table train plan) a.list b.point a.is_list.run b.is_stalled)
+IsEnvelope-once table train plan s r t u (inr a) (inl b) = absurd (runs_or_stalls (train_rule table train) (plan_caps table train plan) b.list a.point b.is_list.run a.is_stalled)
+IsEnvelope-once table train plan s r t u (inr a) (inr b) =
+    let point = stalls_once (train_rule table train) (plan_caps table train plan) a.point b.point a.is_stalled b.is_stalled in
     record {
       one_status = a.is.status_is ∙ ap (λ (k : ℕ). Stalled k) point ∙ sym b.is.status_is;
       one_text = a.is.text_is ∙ ap (λ (k : ℕ). reach_text (reach.Stalled k)) point ∙ sym b.is.text_is;
     }
+
+pub IsTimetable-once : (table : LineView) (train : StockView) (plan : PlanView) → IsOnce (IsTimetable table train plan)
+IsTimetable-once table train plan s r t u (inl a) (inl b) =
+    let h = a.is_list in
+    let k = b.is_list in
+    let list = AtMost-both a.list b.list (length (plan_caps table train plan)) h.run.same_points k.run.same_points (k.greatest a.list h.run) (h.greatest b.list k.run) in
+    record { one_status = a.is.status_is ∙ sym b.is.status_is; one_text = a.is.text_is ∙ ap (λ e. timetable_text plan (rows_of plan table.length e)) list ∙ sym b.is.text_is }
+IsTimetable-once table train plan s r t u (inl a) (inr b) = absurd (runs_or_stalls (train_rule table train) (plan_caps table train plan) a.list b.point a.is_list.run b.is_stalled)
+IsTimetable-once table train plan s r t u (inr a) (inl b) = absurd (runs_or_stalls (train_rule table train) (plan_caps table train plan) b.list a.point b.is_list.run a.is_stalled)
+IsTimetable-once table train plan s r t u (inr a) (inr b) = IsEnvelope-once table train plan s r t u (inr a) (inr b)
+
+pub plan_answer-once : (kind : Print) (table : LineView) (train : StockView) (plan : PlanView) → IsOnce (plan_answer kind table train plan)
+plan_answer-once print.Envelope table train plan = IsEnvelope-once table train plan
+plan_answer-once print.Timetable table train plan = IsTimetable-once table train plan

@@ -10,8 +10,8 @@ use Rattle.run_cli.specs.FileForms.{no_form}
 use Rattle.run_cli.specs.Loads.{IsReason, IsRefused, Loads}
 use Rattle.run_cli.specs.Meanings.{Answers, IsFileForm, IsSilent, Meaning}
 use Rattle.run_cli.specs.Serves.{Finishes, IsMeant, Serves, WorkEnds, Works}
-use Rattle.run_cli.specs.Statuses.{kind_of, status_text}
-use Rattle.run_cli.specs.Statuses.Kind.{whole, stopped, cut}
+use Rattle.run_cli.specs.Statuses.{extent_of, status_text}
+use Rattle.run_cli.specs.Statuses.Extent.{whole, stopped, cut}
 use Rattle.run_cli.specs.declared.status.Status.{Status}
 use Rattle.run_cli.specs.declared.status.Status.TheVariants.{Done, Memory, Usage, ReadFault, WriteFault, Refused, TooLong}
 
@@ -69,8 +69,8 @@ Answers-accepted m files input s t e h = rw e h
 Answers-refused : (m : Meaning) (files : Files) (input : List ℕ) (s : Status) → refusal files (m.reads (Some files)) ≡ Some s → Answers m files input s (status_text s)
 Answers-refused m files input s e = rw e (record { status_is = refl; text_is = refl })
 
-pub EndsBy-whole : (m : Meaning) (files : Files) (input : List ℕ) (old new : Outside) (s : Status) → kind_of s ≡ whole → EndsWhole (Answers m files input) s old.out new.out
-    → EndsBy (kind_of s) m files input old new s
+pub EndsBy-whole : (m : Meaning) (files : Files) (input : List ℕ) (old new : Outside) (s : Status) → extent_of s ≡ whole → EndsWhole (Answers m files input) s old.out new.out
+    → EndsBy (extent_of s) m files input old new s
 EndsBy-whole m files input old new s e h = rw e h
 
 -- want of memory before anything was written
@@ -125,7 +125,7 @@ Serves-worked m shelf shelf' input out out' before now s table form loads works 
           steps = steps s;
         })
     by s (inr (inr (is_whole, may_end, text))) = record {
-      ends = WhereTold-files m (outside shelf input out) (λ files i. EndsBy (kind_of s) m files i (outside shelf input out) (outside shelf' input out') s) form.no_input
+      ends = WhereTold-files m (outside shelf input out) (λ files i. EndsBy (extent_of s) m files i (outside shelf input out) (outside shelf' input out') s) form.no_input
           (IfSome-both shelf.holds _ _ _ (λ files none h. EndsBy-whole m files [] (outside shelf input out) (outside shelf' input out') s is_whole (record {
             text = h.text;
             answer = Answers-accepted m files [] s h.text none h.answer;
@@ -172,12 +172,12 @@ Blames-not_done old new (f ∷ fs) s (inl (inr (inr e))) d = let no : TooLong f.
 Blames-not_done old new (f ∷ fs) s (inr h) d = Blames-not_done old new fs s h d
 
 -- a file is to blame for a fault of reading, or for a status with a text of its own
-BlamesFile-kind : (old new : Told Files) (f : File) (s : Status) → BlamesFile old new f s → (s ≡ ReadFault) ⊎ (kind_of s ≡ whole)
+BlamesFile-kind : (old new : Told Files) (f : File) (s : Status) → BlamesFile old new f s → (s ≡ ReadFault) ⊎ (extent_of s ≡ whole)
 BlamesFile-kind old new f s (inl h) = inl h.0
 BlamesFile-kind old new f s (inr (inl (place, (rule, e)))) = inr (rw e refl)
 BlamesFile-kind old new f s (inr (inr e)) = inr (rw e refl)
 
-Blames-kind : (old new : Told Files) (reads : List File) (s : Status) → Blames old new reads s → (s ≡ ReadFault) ⊎ (kind_of s ≡ whole)
+Blames-kind : (old new : Told Files) (reads : List File) (s : Status) → Blames old new reads s → (s ≡ ReadFault) ⊎ (extent_of s ≡ whole)
 Blames-kind old new [] s h = absurd h
 Blames-kind old new (f ∷ fs) s (inl h) = BlamesFile-kind old new f s h
 Blames-kind old new (f ∷ fs) s (inr h) = Blames-kind old new fs s h
@@ -241,10 +241,10 @@ Serves-unread m shelf shelf' input out out' before form refused nothing = record
     complete quiet (inr first) = IfSome-along shelf.holds _ _ (λ files e i. inr (record { text = []; answer = Answers-refused m files i ReadFault e; written = nothing })) first
 
 -- the whole text of what is in the way
-Serves-told : (m : Meaning) (shelf shelf' : Told Files) (input out out' : Told (List ℕ)) (before : ℕ) (s : Status) → IsSilent m → kind_of s ≡ whole → (s ≡ Done → ⊥)
+Serves-told : (m : Meaning) (shelf shelf' : Told Files) (input out out' : Told (List ℕ)) (before : ℕ) (s : Status) → IsSilent m → extent_of s ≡ whole → (s ≡ Done → ⊥)
     → Blames shelf shelf' (m.reads shelf.holds) s ⊎ m.may_end s → IfSome shelf.holds (λ files. (i : List ℕ) → Answers m files i s (status_text s)) → Writes out out' (status_text s) → Serves m (outside shelf input out) (outside shelf' input out') before before s
 Serves-told m shelf shelf' input out out' before s form is_whole not_done cause answer written = record {
-  ends = WhereTold-any m (outside shelf input out) (λ files i. EndsBy (kind_of s) m files i (outside shelf input out) (outside shelf' input out') s)
+  ends = WhereTold-any m (outside shelf input out) (λ files i. EndsBy (extent_of s) m files i (outside shelf input out) (outside shelf' input out') s)
       (IfSome-along shelf.holds _ _ (λ files a i. EndsBy-whole m files i (outside shelf input out) (outside shelf' input out') s is_whole (record { text = status_text s; answer = a i; written = written })) answer);
   causes = rw is_whole cause;
   complete = λ quiet. WhereTold-any m (outside shelf input out) (λ files i. (s ≡ Memory) ⊎ EndsWhole (Answers m files i) s out out')
@@ -258,7 +258,7 @@ pub Serves-refused : {T : Type 0} (m : Meaning) (shelf shelf' : Told Files) (inp
     → Loads (m.reads shelf.holds) shelf shelf' result → Finishes status out out' s → Serves m (outside shelf input out) (outside shelf' input out') before before s
 Serves-refused {T} m shelf shelf' input out out' before status s result is_err form loads finishes = by (rw is_err at loads.stopped) finishes
   where
-    first : IsRefused (m.reads shelf.holds) shelf shelf' status → kind_of status ≡ whole → IfSome shelf.holds (λ files. refusal files (m.reads (Some files)) ≡ Some status)
+    first : IsRefused (m.reads shelf.holds) shelf shelf' status → extent_of status ≡ whole → IfSome shelf.holds (λ files. refusal files (m.reads (Some files)) ≡ Some status)
     first refused is_whole = at (reason_at m shelf shelf' status refused.reason)
       where
         at : IsFirst m shelf shelf' status → IfSome shelf.holds (λ files. refusal files (m.reads (Some files)) ≡ Some status)
@@ -270,7 +270,7 @@ Serves-refused {T} m shelf shelf' input out out' before status s result is_err f
     cut_short short rose is =
         subst (λ (r : Status). Serves m (outside shelf input out) (outside shelf' input out') before before r) (sym is) (Serves-short m shelf shelf' input out out' before form short rose)
 
-    kinds : IsRefused (m.reads shelf.holds) shelf shelf' status → (status ≡ ReadFault) ⊎ (kind_of status ≡ whole) → Finishes status out out' s
+    kinds : IsRefused (m.reads shelf.holds) shelf shelf' status → (status ≡ ReadFault) ⊎ (extent_of status ≡ whole) → Finishes status out out' s
         → Serves m (outside shelf input out) (outside shelf' input out') before before s
     kinds refused (inl read) (inl (is, text)) =
         subst (λ (r : Status). Serves m (outside shelf input out) (outside shelf' input out') before before r) (sym (is ∙ read))

@@ -1,15 +1,16 @@
 -- What the form `brakes` means.
 use Rattle.std.specs.Prelude.{ℕ, ◌+◌, ◌*◌, List, [], Option}
 use Rattle.std.proofs.Common.{refl, arith}
-use Rattle.case_rules.specs.Case.{train_caps, train_rule}
-use Rattle.line_tables.specs.Table.{LineTable}
+use Rattle.case_rules.specs.Case.{plan_caps, train_rule}
+use Rattle.line_tables.specs.Line.{LineView}
+use Rattle.plan_tables.specs.Plan.{empty_plan}
 use Rattle.report_text.specs.Texts.{list_text}
 use Rattle.run_io.specs.Fetches.{Files}
 use Rattle.run_rules.specs.Runs.{IsBrakingList}
 use Rattle.run_words.specs.declared.requests.BrakesForm.{BrakesForm}
-use Rattle.stock_tables.specs.Stock.{StockTable}
+use Rattle.stock_tables.specs.Stock.{StockView}
 use Rattle.run_cli.specs.FileForms.{IsDone, train_form}
-use Rattle.run_cli.specs.FileLaws.{is_done, train_allows, train_meant}
+use Rattle.run_cli.specs.FileLaws.{is_done, cells_allow, train_meant}
 use Rattle.run_cli.specs.Files.{AreTables}
 use Rattle.run_cli.specs.Meanings.{Is, Meaning}
 use Rattle.run_cli.specs.Serves.{IsMeant}
@@ -18,9 +19,9 @@ use Rattle.run_cli.specs.declared.status.Status.TheVariants.{Done}
 use Rattle.run_cli.specs.declared.status.Status.{Status}
 
 -- the braking list of the train on the line, where it stands at both ends
-pub record IsBrakes (line : LineTable) (stock : StockTable) (s : Status) (t : List ℕ) : Type 0 where
+pub record IsBrakes (line : LineView) (stock : StockView) (s : Status) (t : List ℕ) : Type 0 where
   pub list : List ℕ
-  pub is_list : IsBrakingList (train_rule line stock) (train_caps line stock) list
+  pub is_list : IsBrakingList (train_rule line stock) (plan_caps line stock empty_plan) list
   pub is : Is Done (list_text list) s t
 
 -- what the form means
@@ -29,15 +30,15 @@ brakes_meaning line_name stock_name =
     train_form line_name stock_name IsBrakes IsDone (λ cells. 33 * (cells + 1))
 
 -- the report is what the form means
-pub brakes_means : (f : BrakesForm) (told : Option Files) (both : LineTable × StockTable) (r : ListReport)
+pub brakes_means : (f : BrakesForm) (told : Option Files) (both : LineView × StockView) (r : ListReport)
     → AreTables f.line.now f.stock.now told both
-    → IsBrakingList (train_rule both.0 both.1) (train_caps both.0 both.1) r.numbers.items
+    → IsBrakingList (train_rule both.0 both.1) (plan_caps both.0 both.1 empty_plan) r.numbers.items
     → IsMeant (brakes_meaning f.line.now f.stock.now) told Done (list_text r.numbers.items)
 brakes_means f told both r at is =
     train_meant f.line.now f.stock.now IsBrakes IsDone (λ cells. 33 * (cells + 1)) told both Done (list_text r.numbers.items) at
     (record { list = r.numbers.items; is_list = is; is = is_done (list_text r.numbers.items) (list_text r.numbers.items) refl }) refl refl
 
-pub brakes_allows : (f : BrakesForm) (told : Option Files) (both : LineTable × StockTable)
+pub brakes_allows : (f : BrakesForm) (told : Option Files) (both : LineView × StockView)
     → AreTables f.line.now f.stock.now told both
     → (brakes_meaning f.line.now f.stock.now).steps told [] (33 * (both.0.length + 1))
-brakes_allows f told both at = train_allows (λ cells. 33 * (cells + 1)) (λ a b h. omega (arith, h)) told f.line.now both.0 at.0
+brakes_allows f told both at = cells_allow (λ cells. 33 * (cells + 1)) (λ a b h. omega (arith, h)) told f.line.now both.0 at.0

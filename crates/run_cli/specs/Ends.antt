@@ -5,8 +5,8 @@ use Rattle.run_io.specs.Fetches.{Files}
 use Rattle.run_io.specs.Told.{IsQuiet, Rose, Told, Writes, WritesFront}
 use Rattle.run_cli.specs.Files.{Blames, refusal}
 use Rattle.run_cli.specs.Meanings.{Answer, Answers, Meaning}
-use Rattle.run_cli.specs.Statuses.{Kind, kind_of}
-use Rattle.run_cli.specs.Statuses.Kind.{whole, stopped, cut}
+use Rattle.run_cli.specs.Statuses.{Extent, extent_of}
+use Rattle.run_cli.specs.Statuses.Extent.{whole, stopped, cut}
 use Rattle.run_cli.specs.declared.status.Status.{Status}
 use Rattle.run_cli.specs.declared.status.Status.TheVariants.{Done, Memory}
 
@@ -47,8 +47,8 @@ pub record EndsStopped (m : Meaning) (files : Files) (old new : Outside) (s : St
   pub stands : m.so_far files taken s text
   pub written : Writes old.out new.out text
 
--- what was written, by the kind of the status
-abbrev pub EndsBy : Kind → Meaning → Files → List ℕ → Outside → Outside → Status → Type 0
+-- what was written, by how much of its text a status says there is
+abbrev pub EndsBy : Extent → Meaning → Files → List ℕ → Outside → Outside → Status → Type 0
 EndsBy whole m files input old new s = EndsWhole (Answers m files input) s old.out new.out
 EndsBy stopped m files input old new s = EndsStopped m files old new s
 EndsBy cut m files input old new s =
@@ -66,18 +66,18 @@ WhereTold m old P =
 
 -- what was written, where files and input are told
 abbrev pub EndsAs : Meaning → Outside → Outside → Status → Type 0
-EndsAs m old new s = WhereTold m old (λ files input. EndsBy (kind_of s) m files input old new s)
+EndsAs m old new s = WhereTold m old (λ files input. EndsBy (extent_of s) m files input old new s)
 
--- the cause of a status, by its kind: a file that is to blame, an end of the form's own, a fault of the
+-- the cause of a status, by the same: a file that is to blame, an end of the form's own, a fault of the
 -- input or of the output; none of want of memory
-abbrev pub CausedBy : Kind → Meaning → Outside → Outside → Status → Type 0
+abbrev pub CausedBy : Extent → Meaning → Outside → Outside → Status → Type 0
 CausedBy whole m old new s = Blames old.shelf new.shelf (m.reads old.shelf.holds) s ⊎ m.may_end s
 CausedBy stopped m old new s =
     (s ≡ Memory) ⊎ Blames old.shelf new.shelf (m.reads old.shelf.holds) s ⊎ InputFailed m old new
 CausedBy cut m old new s = Rose old.out new.out
 
 abbrev pub HasCause : Meaning → Outside → Outside → Status → Type 0
-HasCause m old new s = CausedBy (kind_of s) m old new s
+HasCause m old new s = CausedBy (extent_of s) m old new s
 
 -- no count rose of what a form uses
 pub record AllQuiet (m : Meaning) (old new : Outside) : Type 0 where

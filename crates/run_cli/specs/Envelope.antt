@@ -1,47 +1,52 @@
 -- What the form `envelope` means: the fastest run of a train over a line, or the first point that it can't reach.
 use Rattle.std.specs.Prelude.{ℕ, ◌+◌, ◌*◌, ◌⊎◌, List, ◌≡◌, [], Option}
 use Rattle.std.proofs.Common.{refl, inl, inr, arith}
-use Rattle.case_rules.specs.Case.{train_caps, train_rule}
-use Rattle.line_tables.specs.Table.{LineTable}
+use Rattle.case_rules.specs.Case.{plan_caps, train_rule}
+use Rattle.line_tables.specs.Line.{LineView}
+use Rattle.plan_tables.specs.Plan.{PlanView, empty_plan}
 use Rattle.report_text.specs.Texts.{list_text, reach_text}
 use Rattle.run_io.specs.Fetches.{Files}
 use Rattle.run_rules.specs.Runs.{IsGreatestRun, IsStalled}
 use Rattle.run_rules.specs.Runs.{ReachesAs}
 use Rattle.run_words.specs.declared.requests.EnvelopeForm.{EnvelopeForm}
-use Rattle.stock_tables.specs.Stock.{StockTable}
+use Rattle.stock_tables.specs.Stock.{StockView}
 use Rattle.unit_rules.specs.declared.Reach.TheVariants as reach
 use Rattle.unit_rules.specs.declared.Reach.{Reach}
 use Rattle.run_cli.specs.FileForms.{MayStall, train_form}
-use Rattle.run_cli.specs.FileLaws.{train_allows, train_meant}
+use Rattle.run_cli.specs.FileLaws.{cells_allow, train_meant}
 use Rattle.run_cli.specs.Files.{AreTables}
 use Rattle.run_cli.specs.Meanings.{Answer, Is, Meaning}
 use Rattle.run_cli.specs.Serves.{IsMeant}
-use Rattle.run_cli.specs.Statuses.Kind.{whole}
-use Rattle.run_cli.specs.Statuses.{kind_of}
+use Rattle.run_cli.specs.Statuses.Extent.{whole}
+use Rattle.run_cli.specs.Statuses.{extent_of}
 use Rattle.run_cli.specs.declared.report.EnvelopeReport.{EnvelopeReport}
 use Rattle.run_cli.specs.declared.status.Status.TheVariants.{Done, Stalled}
 use Rattle.run_cli.specs.declared.status.Status.{Status}
 
--- the greatest run of the train on the line, where it stands at both ends
-pub record IsRun (line : LineTable) (stock : StockTable) (s : Status) (t : List ℕ) : Type 0 where
+-- the greatest run of the train on the line by the plan
+pub record ShowsRun (line : LineView) (stock : StockView) (plan : PlanView) (s : Status) (t : List ℕ) : Type 0 where
   pub list : List ℕ
-  pub is_list : IsGreatestRun (train_rule line stock) (train_caps line stock) list
+  pub is_list : IsGreatestRun (train_rule line stock) (plan_caps line stock plan) list
   pub is : Is Done (list_text list) s t
 
--- the point at which the train is stalled, where it stands at both ends of the line
-pub record IsStall (line : LineTable) (stock : StockTable) (s : Status) (t : List ℕ) : Type 0 where
+-- the point at which the train is stalled on the line by the plan
+pub record ShowsStall (line : LineView) (stock : StockView) (plan : PlanView) (s : Status) (t : List ℕ) : Type 0 where
   pub point : ℕ
-  pub is_stalled : IsStalled (train_rule line stock) (train_caps line stock) point
+  pub is_stalled : IsStalled (train_rule line stock) (plan_caps line stock plan) point
   pub is : Is (Stalled point) (reach_text (reach.Stalled point)) s t
 
--- the envelope of the train on the line: its greatest run or its stall
-abbrev pub IsEnvelope : LineTable → StockTable → Answer
-IsEnvelope line stock s t = IsRun line stock s t ⊎ IsStall line stock s t
+-- the envelope of the train on the line by the plan: its greatest run or its stall
+abbrev pub IsEnvelope : LineView → StockView → PlanView → Answer
+IsEnvelope line stock plan s t = ShowsRun line stock plan s t ⊎ ShowsStall line stock plan s t
+
+-- the envelope of a train that stands at both ends of the line and calls nowhere
+abbrev pub IsFreeEnvelope : LineView → StockView → Answer
+IsFreeEnvelope line stock = IsEnvelope line stock empty_plan
 
 -- what the form means
 abbrev pub envelope_meaning : List ℕ → List ℕ → Meaning
 envelope_meaning line_name stock_name =
-    train_form line_name stock_name IsEnvelope MayStall (λ cells. 33 * (cells + 1) + cells)
+    train_form line_name stock_name IsFreeEnvelope MayStall (λ cells. 33 * (cells + 1) + cells)
 
 -- the text for how far the train gets: its squared speeds over the whole line, or the point that it doesn't get to
 abbrev pub envelope_text : List ℕ → Reach → List ℕ
@@ -54,31 +59,31 @@ envelope_status reach.Whole = Done
 envelope_status (reach.Stalled k) = Stalled k
 
 -- what the walks give answers, as a run or as a stall
-reaches-IsEnvelope : (line : LineTable) (stock : StockTable) (speeds : List ℕ) (r : Reach)
-    → ReachesAs (train_rule line stock) (train_caps line stock) speeds r → IsEnvelope line stock (envelope_status r) (envelope_text speeds r)
-reaches-IsEnvelope line stock speeds reach.Whole h =
+pub reaches-IsEnvelope : (line : LineView) (stock : StockView) (plan : PlanView) (speeds : List ℕ) (r : Reach)
+    → ReachesAs (train_rule line stock) (plan_caps line stock plan) speeds r → IsEnvelope line stock plan (envelope_status r) (envelope_text speeds r)
+reaches-IsEnvelope line stock plan speeds reach.Whole h =
     inl (record { list = speeds; is_list = h; is = record { status_is = refl; text_is = refl } })
-reaches-IsEnvelope line stock speeds (reach.Stalled k) h =
+reaches-IsEnvelope line stock plan speeds (reach.Stalled k) h =
     inr (record { point = k; is_stalled = h.0; is = record { status_is = refl; text_is = refl } })
 
-envelope_status-whole : (r : Reach) → kind_of (envelope_status r) ≡ whole
+pub envelope_status-whole : (r : Reach) → extent_of (envelope_status r) ≡ whole
 envelope_status-whole reach.Whole = refl
 envelope_status-whole (reach.Stalled k) = refl
 
-envelope_status-ends : (r : Reach) → MayStall (envelope_status r)
+pub envelope_status-ends : (r : Reach) → MayStall (envelope_status r)
 envelope_status-ends reach.Whole = inl refl
 envelope_status-ends (reach.Stalled k) = inr (k, refl)
 
-pub envelope_means : (f : EnvelopeForm) (told : Option Files) (both : LineTable × StockTable) (r : EnvelopeReport)
+pub envelope_means : (f : EnvelopeForm) (told : Option Files) (both : LineView × StockView) (r : EnvelopeReport)
     → AreTables f.line.now f.stock.now told both
-    → ReachesAs (train_rule both.0 both.1) (train_caps both.0 both.1) r.speeds.items r.reach
+    → ReachesAs (train_rule both.0 both.1) (plan_caps both.0 both.1 empty_plan) r.speeds.items r.reach
     → IsMeant (envelope_meaning f.line.now f.stock.now) told (envelope_status r.reach) (envelope_text r.speeds.items r.reach)
 envelope_means f told both r at is =
-    train_meant f.line.now f.stock.now IsEnvelope MayStall (λ cells. 33 * (cells + 1) + cells) told both (envelope_status r.reach)
-    (envelope_text r.speeds.items r.reach) at (reaches-IsEnvelope both.0 both.1 r.speeds.items r.reach is)
+    train_meant f.line.now f.stock.now IsFreeEnvelope MayStall (λ cells. 33 * (cells + 1) + cells) told both (envelope_status r.reach)
+    (envelope_text r.speeds.items r.reach) at (reaches-IsEnvelope both.0 both.1 empty_plan r.speeds.items r.reach is)
     (envelope_status-whole r.reach) (envelope_status-ends r.reach)
 
-pub envelope_allows : (f : EnvelopeForm) (told : Option Files) (both : LineTable × StockTable)
+pub envelope_allows : (f : EnvelopeForm) (told : Option Files) (both : LineView × StockView)
     → AreTables f.line.now f.stock.now told both
     → (envelope_meaning f.line.now f.stock.now).steps told [] (33 * (both.0.length + 1) + both.0.length)
-envelope_allows f told both at = train_allows (λ cells. 33 * (cells + 1) + cells) (λ a b h. omega (arith, h)) told f.line.now both.0 at.0
+envelope_allows f told both at = cells_allow (λ cells. 33 * (cells + 1) + cells) (λ a b h. omega (arith, h)) told f.line.now both.0 at.0

@@ -1,9 +1,10 @@
 -- Forms that read files alone, and what answers by the tables of these files.
 use Rattle.std.specs.Prelude.{ℕ, ◌≡◌, ◌≤◌, ◌⊎◌, false, List, [], ◌∷◌, Option, Some}
-use Rattle.line_tables.specs.Table.{LineTable}
-use Rattle.stock_tables.specs.Stock.{StockTable}
+use Rattle.line_tables.specs.Line.{LineView}
+use Rattle.plan_tables.specs.Plan.{PlanView}
+use Rattle.stock_tables.specs.Stock.{StockView}
 use Rattle.run_io.specs.Fetches.{Files}
-use Rattle.run_cli.specs.Files.{File, line_file, line_reading, most_cells, stock_file, stock_reading, table_in}
+use Rattle.run_cli.specs.Files.{CaseNames, File, case_files, line_file, line_reading, most_cells, plan_reading, stock_file, stock_reading, table_in}
 use Rattle.run_cli.specs.Meanings.{Answer, Is, Meaning}
 use Rattle.run_cli.specs.Statuses.{status_text}
 use Rattle.run_cli.specs.declared.status.Status.{Status}
@@ -38,30 +39,45 @@ abbrev pub MayStall : Status → Type 0
 MayStall s = (s ≡ Done) ⊎ ((point : ℕ) × (s ≡ Stalled point))
 
 -- what answers by the line of a file that is accepted
-abbrev pub ByLine : List ℕ → (LineTable → Answer) → Files → Answer
+abbrev pub ByLine : List ℕ → (LineView → Answer) → Files → Answer
 ByLine name next files s t =
-    (table : LineTable) × (table_in line_reading (files name) ≡ Some table) × next table s t
+    (table : LineView) × (table_in line_reading (files name) ≡ Some table) × next table s t
 
 -- what answers by the stock of a file that is accepted
-abbrev pub ByStock : List ℕ → (StockTable → Answer) → Files → Answer
+abbrev pub ByStock : List ℕ → (StockView → Answer) → Files → Answer
 ByStock name next files s t =
-    (table : StockTable) × (table_in stock_reading (files name) ≡ Some table) × next table s t
+    (table : StockView) × (table_in stock_reading (files name) ≡ Some table) × next table s t
 
 -- what answers by a line and a stock
-abbrev pub ByBoth : List ℕ → List ℕ → (LineTable → StockTable → Answer) → Files → Answer
+abbrev pub ByBoth : List ℕ → List ℕ → (LineView → StockView → Answer) → Files → Answer
 ByBoth line_name stock_name next files = ByLine line_name (λ line. ByStock stock_name (next line) files) files
 
 -- a form of a line, which takes no steps
-abbrev pub line_form : List ℕ → (LineTable → Answer) → Meaning
+abbrev pub line_form : List ℕ → (LineView → Answer) → Meaning
 line_form name answers = file_form (line_file name ∷ []) (ByLine name answers) IsDone (AtMost (λ told. 0))
 
 -- a form of a stock, which takes no steps
-abbrev pub stock_form : List ℕ → (StockTable → Answer) → Meaning
+abbrev pub stock_form : List ℕ → (StockView → Answer) → Meaning
 stock_form name answers = file_form (stock_file name ∷ []) (ByStock name answers) IsDone (AtMost (λ told. 0))
 
 -- a form of a train on a line, which takes at most so many steps by the number of cells
-abbrev pub train_form : List ℕ → List ℕ → (LineTable → StockTable → Answer) → (Status → Type 0) → (ℕ → ℕ)
+abbrev pub train_form : List ℕ → List ℕ → (LineView → StockView → Answer) → (Status → Type 0) → (ℕ → ℕ)
     → Meaning
 train_form line_name stock_name answers may_end steps =
     file_form (line_file line_name ∷ stock_file stock_name ∷ []) (ByBoth line_name stock_name answers)
     may_end (AtMost (λ told. steps (most_cells told line_name)))
+
+-- what answers by the plan of a file that is accepted
+abbrev pub ByPlan : LineView → List ℕ → (PlanView → Answer) → Files → Answer
+ByPlan line name next files s t =
+    (table : PlanView) × (table_in (plan_reading line) (files name) ≡ Some table) × next table s t
+
+-- what answers by a line, a stock and a plan
+abbrev pub ByCase : CaseNames → (LineView → StockView → PlanView → Answer) → Files → Answer
+ByCase names next files =
+    ByBoth names.line names.stock (λ line stock. ByPlan line names.plan (next line stock) files) files
+
+-- a form of a train on a line by a plan
+abbrev pub case_form : CaseNames → (LineView → StockView → PlanView → Answer) → (Status → Type 0)
+    → (Option Files → ℕ) → Meaning
+case_form names answers may_end steps = file_form (case_files names) (ByCase names answers) may_end (AtMost steps)

@@ -1,14 +1,17 @@
 -- That the reports of forms that read files alone are what these forms mean, and that their steps are allowed.
 use Rattle.std.proofs.Common.{◌≡◌, ◌≤◌, ℕ, List, Option, Some, None, refl, arith}
-use Rattle.line_tables.specs.Table.{LineTable}
+use Rattle.unit_rules.specs.Limits.{longest_line}
+use Rattle.line_tables.specs.Line.{LineView}
 use Rattle.run_io.specs.Fetches.{Files}
-use Rattle.stock_tables.specs.Stock.{StockTable}
-use Rattle.run_cli.specs.FileForms.{AtMost, file_form, line_form, stock_form, train_form}
-use Rattle.run_cli.specs.Files.{AreTables, File, IsLine, IsStock, most_cells}
+use Rattle.plan_tables.specs.Plan.{PlanView}
+use Rattle.stock_tables.specs.Stock.{StockView}
+use Rattle.run_cli.specs.FileForms.{AtMost, case_form, file_form, line_form, stock_form, train_form}
+use Rattle.run_cli.specs.Files.{AreTables, CaseNames, File, IsCase, IsRead, line_reading, most_cells, stock_reading}
 use Rattle.run_cli.specs.Meanings.{Answer, Is, IsFileForm}
 use Rattle.run_cli.specs.Serves.{IsMeant}
-use Rattle.run_cli.specs.Statuses.{kind_of}
-use Rattle.run_cli.specs.Statuses.Kind.{whole}
+use Rattle.run_cli.specs.Statuses.{extent_of}
+use Rattle.run_cli.specs.Statuses.Extent.{whole}
+use Rattle.run_cli.specs.declared.cases.Case.{Case}
 use Rattle.run_cli.specs.declared.status.Status.{Status}
 use Rattle.run_cli.specs.declared.status.Status.TheVariants.{Done}
 
@@ -21,28 +24,35 @@ alone reads answers may_end most = record {
 }
 
 -- what answers by a line, by a stock, or by both is meant where these were read
-pub line_meant : (name : List ℕ) (answers : LineTable → Answer) (told : Option Files) (line : LineTable) (t : List ℕ)
-    → IsLine told name line → answers line Done t → IsMeant (line_form name answers) told Done t
+pub line_meant : (name : List ℕ) (answers : LineView → Answer) (told : Option Files) (line : LineView) (t : List ℕ)
+    → IsRead line_reading told name line → answers line Done t → IsMeant (line_form name answers) told Done t
 line_meant name answers None line t at h = record { answers = tt; is_whole = refl; may_end = refl }
 line_meant name answers (Some files) line t at h = record { answers = (line, at.same, h); is_whole = refl; may_end = refl }
 
-pub stock_meant : (name : List ℕ) (answers : StockTable → Answer) (told : Option Files) (stock : StockTable) (t : List ℕ)
-    → IsStock told name stock → answers stock Done t → IsMeant (stock_form name answers) told Done t
+pub stock_meant : (name : List ℕ) (answers : StockView → Answer) (told : Option Files) (stock : StockView) (t : List ℕ)
+    → IsRead stock_reading told name stock → answers stock Done t → IsMeant (stock_form name answers) told Done t
 stock_meant name answers None stock t at h = record { answers = tt; is_whole = refl; may_end = refl }
-stock_meant name answers (Some files) stock t at h = record { answers = (stock, at, h); is_whole = refl; may_end = refl }
+stock_meant name answers (Some files) stock t at h = record { answers = (stock, at.same, h); is_whole = refl; may_end = refl }
 
-pub train_meant : (line_name stock_name : List ℕ) (answers : LineTable → StockTable → Answer) (may_end : Status → Type 0) (steps : ℕ → ℕ)
-    (told : Option Files) (both : LineTable × StockTable) (s : Status) (t : List ℕ) → AreTables line_name stock_name told both
-    → answers both.0 both.1 s t → kind_of s ≡ whole → may_end s → IsMeant (train_form line_name stock_name answers may_end steps) told s t
+pub train_meant : (line_name stock_name : List ℕ) (answers : LineView → StockView → Answer) (may_end : Status → Type 0) (steps : ℕ → ℕ)
+    (told : Option Files) (both : LineView × StockView) (s : Status) (t : List ℕ) → AreTables line_name stock_name told both
+    → answers both.0 both.1 s t → extent_of s ≡ whole → may_end s → IsMeant (train_form line_name stock_name answers may_end steps) told s t
 train_meant line_name stock_name answers may_end steps None both s t at h is ends = record { answers = tt; is_whole = is; may_end = ends }
 train_meant line_name stock_name answers may_end steps (Some files) both s t at h is ends =
-    record { answers = (both.0, at.0.same, (both.1, at.1, h)); is_whole = is; may_end = ends }
+    record { answers = (both.0, at.0.same, (both.1, at.1.same, h)); is_whole = is; may_end = ends }
+
+pub case_meant : (names : CaseNames) (answers : LineView → StockView → PlanView → Answer) (may_end : Status → Type 0) (steps : Option Files → ℕ)
+    (told : Option Files) (c : Case) (s : Status) (t : List ℕ) → IsCase names told c
+    → answers c.line c.stock c.plan s t → extent_of s ≡ whole → may_end s → IsMeant (case_form names answers may_end steps) told s t
+case_meant names answers may_end steps None c s t at h is ends = record { answers = tt; is_whole = is; may_end = ends }
+case_meant names answers may_end steps (Some files) c s t at h is ends =
+    record { answers = (c.line, at.line.same, (c.stock, at.stock.same, (c.plan, at.plan.same, h))); is_whole = is; may_end = ends }
 
 -- a line that was read has no more cells than the line of its file, so no more steps are taken than by these
-pub train_allows : (steps : ℕ → ℕ) (rises : (a b : ℕ) → a ≤ b → steps a ≤ steps b) (told : Option Files) (name : List ℕ) (line : LineTable)
-    → IsLine told name line → steps line.length ≤ steps (most_cells told name)
-train_allows steps rises None name line at = rises line.length 500000 at.short
-train_allows steps rises (Some files) name line at = rw at.same (rises line.length line.length (omega arith))
+pub cells_allow : (steps : ℕ → ℕ) (rises : (a b : ℕ) → a ≤ b → steps a ≤ steps b) (told : Option Files) (name : List ℕ) (line : LineView)
+    → IsRead line_reading told name line → steps line.length ≤ steps (most_cells told name)
+cells_allow steps rises None name line at = rises line.length longest_line at.kept.long
+cells_allow steps rises (Some files) name line at = rw at.same (rises line.length line.length (omega arith))
 
 -- a status and a text are the ones that answer
 pub is_done : (t u : List ℕ) → t ≡ u → Is Done u Done t

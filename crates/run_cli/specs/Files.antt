@@ -1,19 +1,19 @@
 -- The files that a form reads, one after another, and the first of them that is in the way.
-use Rattle.std.specs.Prelude.{ℕ, ◌≡◌, ◌≤◌, ◌⊎◌, List, [], ◌∷◌, length, nat_lt, if◌then◌else◌, Option, None, Some, Result, Ok, Err, IfSome}
+use Rattle.std.specs.Prelude.{ℕ, ◌≡◌, ◌⊎◌, List, [], ◌∷◌, length, nat_lt, if◌then◌else◌, Option, None, Some, Result, Ok, Err, IfSome}
 use Rattle.std.specs.Option.{option_or}
+use Rattle.unit_rules.specs.Limits.{longest_line, most_bytes}
 use Rattle.run_io.specs.Fetches.{Files, IsAbsent}
 use Rattle.run_io.specs.Told.{Rose, Told}
 use Rattle.line_tables.specs.LineFile as line
-use Rattle.line_tables.specs.Table.{LineTable}
+use Rattle.line_tables.specs.Line.{IsLine, LineView}
+use Rattle.plan_tables.specs.PlanFile as plan
+use Rattle.plan_tables.specs.Plan.{IsPlan, PlanLiesOn, PlanView}
 use Rattle.stock_tables.specs.StockFile as stock
-use Rattle.stock_tables.specs.Stock.{StockTable}
-use Rattle.run_cli.specs.Statuses.{line_status, stock_status}
+use Rattle.stock_tables.specs.Stock.{IsStock, StockView}
+use Rattle.run_cli.specs.Statuses.{line_number, line_status, plan_number, plan_status, stock_number, stock_status}
+use Rattle.run_cli.specs.declared.cases.Case.{Case}
 use Rattle.run_cli.specs.declared.status.Status.{Status}
 use Rattle.run_cli.specs.declared.status.Status.TheVariants.{ReadFault, Refused, TooLong}
-
--- how many bytes a file may have
-abbrev pub most_bytes : ℕ
-most_bytes = 67108864
 
 -- a file that is read: its number among the files of all forms, its name, and the status of the fault that its reader
 -- finds in some bytes, if there is one; a reader may know the files that were read before
@@ -63,53 +63,100 @@ abbrev pub table_of : {T : Type 0} → Result T Status → Option T
 table_of (Ok table) = Some table
 table_of (Err s) = None
 
--- the table of a file that may not be there
-abbrev pub table_in : {T : Type 0} → (List ℕ → Result T Status) → Option (List ℕ) → Option T
+-- a kind of file: its number among the files of all forms, what every table of it keeps, and what bytes read as
+pub record Reading (T : Type 0) : Type 1 where
+  pub number : ℕ
+  pub keeps : T → Type 0
+  pub read : List ℕ → Result T Status
+
+-- the table of a file of that kind that may not be there
+abbrev pub table_in : {T : Type 0} → Reading T → Option (List ℕ) → Option T
 table_in reading None = None
-table_in reading (Some bytes) = table_of (reading bytes)
+table_in reading (Some bytes) = table_of (reading.read bytes)
 
--- a file of that number and name that reads as the bytes alone say
-abbrev pub file_read : {T : Type 0} → ℕ → (List ℕ → Result T Status) → List ℕ → File
-file_read number reading name =
-    record { number = number; name = name; judge = λ files bytes. fault_of (reading bytes) }
+-- the file of that kind and name, whose bytes alone say what it reads as
+abbrev pub file_read : {T : Type 0} → Reading T → List ℕ → File
+file_read reading name =
+    record { number = reading.number; name = name; judge = λ files bytes. fault_of (reading.read bytes) }
 
--- the table of the file of that name, where files are told
-abbrev pub IsTable : {T : Type 0} → (List ℕ → Result T Status) → Option Files → List ℕ → T → Type 0
-IsTable reading told name table = IfSome told (λ files. table_in reading (files name) ≡ Some table)
+-- a table keeps what every table of that kind keeps, and is that of the file of that name, where files are told
+pub record IsRead {T : Type 0} (reading : Reading T) (told : Option Files) (name : List ℕ) (table : T) : Type 0 where
+  pub kept : reading.keeps table
+  pub same : IfSome told (λ files. table_in reading (files name) ≡ Some table)
 
--- a line file is file 1
-abbrev pub line_reading : List ℕ → Result LineTable Status
-line_reading bytes = with_status line_status (line.read_as_line bytes)
+-- line files
+abbrev pub line_reading : Reading LineView
+line_reading = record {
+  number = line_number;
+  keeps = IsLine;
+  read = λ bytes. with_status line_status (line.read_as_line bytes);
+}
 
 abbrev pub line_file : List ℕ → File
-line_file name = file_read 1 line_reading name
+line_file = file_read line_reading
 
--- a stock file is file 2
-abbrev pub stock_reading : List ℕ → Result StockTable Status
-stock_reading bytes = with_status stock_status (stock.read_as_stock bytes)
+-- stock files
+abbrev pub stock_reading : Reading StockView
+stock_reading = record {
+  number = stock_number;
+  keeps = IsStock;
+  read = λ bytes. with_status stock_status (stock.read_as_stock bytes);
+}
 
 abbrev pub stock_file : List ℕ → File
-stock_file name = file_read 2 stock_reading name
+stock_file = file_read stock_reading
 
--- the line of the file of that name, where files are told, and no longer than a line may be
-pub record IsLine (told : Option Files) (name : List ℕ) (table : LineTable) : Type 0 where
-  pub short : table.length ≤ 500000
-  pub same : IsTable line_reading told name table
+-- plan files, which are read for a line
+abbrev pub plan_reading : LineView → Reading PlanView
+plan_reading line = record {
+  number = plan_number;
+  keeps = λ p. IsPlan p × PlanLiesOn line.length p;
+  read = λ bytes. with_status plan_status (plan.read_as_plan line bytes);
+}
 
--- the stock of the file of that name, where files are told
-abbrev pub IsStock : Option Files → List ℕ → StockTable → Type 0
-IsStock told name table = IsTable stock_reading told name table
+-- the fault of a plan file for a line that may not be there
+abbrev pub plan_fault_for : Option LineView → List ℕ → Option Status
+plan_fault_for None bytes = None
+plan_fault_for (Some line) bytes = fault_of ((plan_reading line).read bytes)
+
+-- the plan file of that name, for the line of the file of the other name
+abbrev pub plan_file : List ℕ → List ℕ → File
+plan_file line_name name = record {
+  number = plan_number;
+  name = name;
+  judge = λ files bytes. plan_fault_for (table_in line_reading (files line_name)) bytes;
+}
+
+-- the names of the files of a case: a line, a stock and a plan
+pub record CaseNames : Type 0 where
+  pub line : List ℕ
+  pub stock : List ℕ
+  pub plan : List ℕ
+
+abbrev pub case_names : List ℕ → List ℕ → List ℕ → CaseNames
+case_names line stock plan = record { line = line; stock = stock; plan = plan }
+
+-- the files of a case, in the order in which they are read
+abbrev pub case_files : CaseNames → List File
+case_files names = line_file names.line ∷ stock_file names.stock ∷ plan_file names.line names.plan ∷ []
 
 -- a line and a stock are those of the files of these names
-abbrev pub AreTables : List ℕ → List ℕ → Option Files → LineTable × StockTable → Type 0
-AreTables line_name stock_name told both = IsLine told line_name both.0 × IsStock told stock_name both.1
+abbrev pub AreTables : List ℕ → List ℕ → Option Files → LineView × StockView → Type 0
+AreTables line_name stock_name told both =
+    IsRead line_reading told line_name both.0 × IsRead stock_reading told stock_name both.1
 
--- how many cells a line has that may not be there
-abbrev pub cells_of : Option LineTable → ℕ
-cells_of None = 0
-cells_of (Some table) = table.length
+-- the length of a line that may not be there
+abbrev pub length_of : Option LineView → ℕ
+length_of None = 0
+length_of (Some table) = table.length
 
 -- how many cells the line of the file of that name has; where no files are told, as many as any line may have
 abbrev pub most_cells : Option Files → List ℕ → ℕ
-most_cells None name = 500000
-most_cells (Some files) name = cells_of (table_in line_reading (files name))
+most_cells None name = longest_line
+most_cells (Some files) name = length_of (table_in line_reading (files name))
+
+-- a case is that of the files of these names
+pub record IsCase (names : CaseNames) (told : Option Files) (c : Case) : Type 0 where
+  pub line : IsRead line_reading told names.line c.line
+  pub stock : IsRead stock_reading told names.stock c.stock
+  pub plan : IsRead (plan_reading c.line) told names.plan c.plan

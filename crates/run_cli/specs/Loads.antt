@@ -1,8 +1,9 @@
 -- How the loading of files ends.
-use Rattle.std.specs.Prelude.{ℕ, ◌≡◌, ◌≤◌, ◌⊎◌, List, length, Option, None, Some, Result, IfOk, IfErr, IfSome}
+use Rattle.std.specs.Prelude.{ℕ, ◌≡◌, ◌≤◌, ◌+◌, ◌⊎◌, List, length, Option, None, Some, Result, IfOk, IfErr, IfSome}
 use Rattle.run_io.specs.Fetches.{Files}
 use Rattle.run_io.specs.Told.{Rose, Told}
-use Rattle.run_cli.specs.Files.{Blames, File, IsRefusal, most_bytes, refusal}
+use Rattle.unit_rules.specs.Limits.{most_bytes}
+use Rattle.run_cli.specs.Files.{Blames, File, IsRefusal, refusal}
 use Rattle.run_cli.specs.declared.status.Status.{Status}
 use Rattle.run_cli.specs.declared.status.Status.TheVariants.{Memory, ReadFault}
 
@@ -26,6 +27,10 @@ pub record Loads {T : Type 0} (reads : List File) (old new : Told Files) (result
   pub later : old.faults ≤ new.faults
   pub loaded : IfOk result (λ t. IfSome old.holds (λ files. refusal files reads ≡ None))
   pub stopped : IfErr result (LoadStops reads old new)
+
+-- a shelf was asked for no more files than these
+abbrev pub AsksOnce : List File → ℕ → ℕ → Type 0
+AsksOnce reads before now = now ≤ before + length reads
 
 -- not too many bytes, and where files are told those of the file of that name
 pub record Fetched (told : Option Files) (name bytes : List ℕ) : Type 0 where

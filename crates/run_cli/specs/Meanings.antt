@@ -2,8 +2,8 @@
 use Rattle.std.specs.Prelude.{ℕ, ◌≡◌, Bool, false, List, [], Option, Some, None}
 use Rattle.run_io.specs.Fetches.{Files}
 use Rattle.run_cli.specs.Files.{File, refusal}
-use Rattle.run_cli.specs.Statuses.{kind_of, status_text}
-use Rattle.run_cli.specs.Statuses.Kind.{stopped}
+use Rattle.run_cli.specs.Statuses.{extent_of, status_text}
+use Rattle.run_cli.specs.Statuses.Extent.{stopped}
 use Rattle.run_cli.specs.declared.status.Status.{Status}
 
 -- which statuses with which texts answer
@@ -55,7 +55,7 @@ AnswersOnce m = (files : Files) (input : List ℕ) → IsOnce (Answers m files i
 -- a form has written nothing where it is stopped before it has taken any of the input, and may do without
 -- a step
 pub record IsSilent (m : Meaning) : Type 0 where
-  pub silent : (files : Files) (s : Status) → kind_of s ≡ stopped → m.so_far files [] s []
+  pub silent : (files : Files) (s : Status) → extent_of s ≡ stopped → m.so_far files [] s []
   pub idle : (told : Option Files) → m.steps told [] 0
 
 -- such a form that doesn't read the input at all

@@ -1,32 +1,44 @@
 -- That the readers' faults refuse the files that they read.
 use Rattle.std.proofs.Common.{ℕ, List, Ok, Err, Result, refl, inl, inr}
 use Rattle.line_tables.specs.LineFile as line
-use Rattle.line_tables.specs.Table.{LineTable}
+use Rattle.line_tables.specs.Line.{LineView}
 use Rattle.line_tables.specs.declared.LineFault.{LineFault}
 use Rattle.line_tables.specs.declared.LineFault.TheVariants as line_fault
+use Rattle.plan_tables.specs.PlanFile as plan
+use Rattle.plan_tables.specs.Plan.{PlanView}
+use Rattle.plan_tables.specs.declared.PlanFault.{PlanFault}
+use Rattle.plan_tables.specs.declared.PlanFault.TheVariants as plan_fault
 use Rattle.stock_tables.specs.StockFile as stock
-use Rattle.stock_tables.specs.Stock.{StockTable}
+use Rattle.stock_tables.specs.Stock.{StockView}
 use Rattle.stock_tables.specs.declared.StockFault.{StockFault}
 use Rattle.stock_tables.specs.declared.StockFault.TheVariants as stock_fault
-use Rattle.run_cli.specs.Files.{line_reading, stock_reading, with_status}
+use Rattle.run_cli.specs.Files.{line_reading, plan_reading, stock_reading, with_status}
 use Rattle.run_cli.specs.Loads.{MayRefuse}
-use Rattle.run_cli.specs.Statuses.{line_status, stock_status}
+use Rattle.run_cli.specs.Statuses.{line_number, line_status, plan_number, plan_status, stock_number, stock_status}
 
-line_refused : (r : Result LineTable LineFault) → MayRefuse 1 (with_status line_status r)
+line_refused : (r : Result LineView LineFault) → MayRefuse line_number (with_status line_status r)
 line_refused (Ok table) = tt
 line_refused (Err line_fault.Memory) = inl refl
 line_refused (Err line_fault.Missing) = inr (inl (_, (_, refl)))
 line_refused (Err (line_fault.Bad place rule)) = inr (inl (_, (_, refl)))
 
-pub line_refuses : (bytes : List ℕ) → MayRefuse 1 (line_reading bytes)
+pub line_refuses : (bytes : List ℕ) → MayRefuse line_reading.number (line_reading.read bytes)
 line_refuses bytes = line_refused (line.read_as_line bytes)
 
-stock_refused : (r : Result StockTable StockFault) → MayRefuse 2 (with_status stock_status r)
+stock_refused : (r : Result StockView StockFault) → MayRefuse stock_number (with_status stock_status r)
 stock_refused (Ok table) = tt
 stock_refused (Err stock_fault.Memory) = inl refl
 stock_refused (Err stock_fault.NotToml) = inr (inl (_, (_, refl)))
 stock_refused (Err (stock_fault.Key key rule)) = inr (inl (_, (_, refl)))
 stock_refused (Err (stock_fault.Law table k)) = inr (inl (_, (_, refl)))
 
-pub stock_refuses : (bytes : List ℕ) → MayRefuse 2 (stock_reading bytes)
+pub stock_refuses : (bytes : List ℕ) → MayRefuse stock_reading.number (stock_reading.read bytes)
 stock_refuses bytes = stock_refused (stock.read_as_stock bytes)
+
+plan_refused : (r : Result PlanView PlanFault) → MayRefuse plan_number (with_status plan_status r)
+plan_refused (Ok table) = tt
+plan_refused (Err plan_fault.Memory) = inl refl
+plan_refused (Err (plan_fault.Bad place rule)) = inr (inl (_, (_, refl)))
+
+pub plan_refuses : (line : LineView) (bytes : List ℕ) → MayRefuse (plan_reading line).number ((plan_reading line).read bytes)
+plan_refuses line bytes = plan_refused (plan.read_as_plan line bytes)

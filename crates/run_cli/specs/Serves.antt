@@ -4,8 +4,8 @@ use Rattle.run_io.specs.Fetches.{Files}
 use Rattle.run_io.specs.Told.{Rose, Told, Writes, WritesFront}
 use Rattle.run_cli.specs.Ends.{EndsAs, EndsShort, EndsWhole, HasCause, IsComplete, Outside, TakesInput, TakesSteps}
 use Rattle.run_cli.specs.Meanings.{Meaning}
-use Rattle.run_cli.specs.Statuses.{kind_of, status_text}
-use Rattle.run_cli.specs.Statuses.Kind.{whole}
+use Rattle.run_cli.specs.Statuses.{extent_of, status_text}
+use Rattle.run_cli.specs.Statuses.Extent.{whole}
 use Rattle.run_cli.specs.declared.status.Status.{Status}
 use Rattle.run_cli.specs.declared.status.Status.TheVariants.{Memory, WriteFault}
 
@@ -20,7 +20,7 @@ pub record Serves (m : Meaning) (old new : Outside) (before now : ℕ) (s : Stat
 -- a status and a text are among those that a form means which reads files alone
 pub record IsMeant (m : Meaning) (told : Option Files) (s : Status) (t : List ℕ) : Type 0 where
   pub answers : IfSome told (λ files. m.answers files [] s t)
-  pub is_whole : kind_of s ≡ whole
+  pub is_whole : extent_of s ≡ whole
   pub may_end : m.may_end s
 
 -- how the work over tables may end: for want of memory, by a fault of the sink, or with a whole text
@@ -28,7 +28,7 @@ abbrev pub WorkEnds : Meaning → Option Files → Told (List ℕ) → Told (Lis
 WorkEnds m told old new s =
     ((s ≡ Memory) × Writes old new [])
     ⊎ ((s ≡ WriteFault) × Rose old new × IfSome told (λ files. EndsShort (m.answers files []) old new))
-    ⊎ ((kind_of s ≡ whole) × m.may_end s × IfSome told (λ files. EndsWhole (m.answers files []) s old new))
+    ⊎ ((extent_of s ≡ whole) × m.may_end s × IfSome told (λ files. EndsWhole (m.answers files []) s old new))
 
 pub record Works (m : Meaning) (told : Option Files) (old new : Told (List ℕ)) (before now : ℕ) (s : Status) : Type 0 where
   pub ends : WorkEnds m told old new s

@@ -3,6 +3,9 @@ use Rattle.std.specs.Prelude.{ℕ, ◌==◌, if◌then◌else◌, List, [], ◌+
 use Rattle.std.specs.Fmt.{decimal}
 use Rattle.line_tables.specs.declared.LineFault.{LineFault}
 use Rattle.line_tables.specs.declared.LineFault.TheVariants as line
+use Rattle.plan_tables.specs.declared.PlanFault.{PlanFault}
+use Rattle.plan_tables.specs.declared.PlanFault.TheVariants as plan
+use Rattle.stock_tables.specs.Rules.{brake_law, effort_key, effort_law}
 use Rattle.stock_tables.specs.declared.StockFault.{StockFault}
 use Rattle.stock_tables.specs.declared.StockFault.TheVariants as stock
 use Rattle.run_cli.specs.declared.status.Status.{Status}
@@ -17,32 +20,46 @@ status_text (NotValid rule point) = codes "not valid " ++ decimal rule ++ codes 
 status_text (TooLong file) = codes "too long " ++ decimal file ++ codes "\n"
 status_text _ = []
 
--- a line file is file 1; where its line is missing, place and rule are 0
+-- the numbers of line, stock and plan files among the files of all forms
+abbrev pub line_number : ℕ
+line_number = 1
+
+abbrev pub stock_number : ℕ
+stock_number = 2
+
+abbrev pub plan_number : ℕ
+plan_number = 3
+
+-- where the line of a file is missing, place and rule are 0
 abbrev pub line_status : LineFault → Status
-line_status (line.Bad place rule) = Refused 1 place rule
-line_status line.Missing = Refused 1 0 0
+line_status (line.Bad place rule) = Refused line_number place rule
+line_status line.Missing = Refused line_number 0 0
 line_status line.Memory = Memory
 
--- the rule of a law: 5 for effort, which is key 5, and 6 for brake
+-- the rule of the law of a table, by its key
 abbrev pub law_rule : ℕ → ℕ
-law_rule table = if table == 5 then 5 else 6
+law_rule table = if table == effort_key then effort_law else brake_law
 
--- a stock file is file 2; its places are the keys, and for a law the speed from which it is broken
+-- the places of a stock file are the keys, and for a law the speed from which it is broken
 abbrev pub stock_status : StockFault → Status
-stock_status stock.NotToml = Refused 2 0 0
-stock_status (stock.Key key rule) = Refused 2 key rule
-stock_status (stock.Law table k) = Refused 2 k (law_rule table)
+stock_status stock.NotToml = Refused stock_number 0 0
+stock_status (stock.Key key rule) = Refused stock_number key rule
+stock_status (stock.Law table k) = Refused stock_number k (law_rule table)
 stock_status stock.Memory = Memory
+
+abbrev pub plan_status : PlanFault → Status
+plan_status (plan.Bad place rule) = Refused plan_number place rule
+plan_status plan.Memory = Memory
 
 -- what a run has written that ends by a status: its whole text; what stood when a fault of reading or want of memory
 -- stopped it; or a front of its text, at a fault of the sink
-pub data Kind : Type 0 where
-  whole : Kind
-  stopped : Kind
-  cut : Kind
+pub data Extent : Type 0 where
+  whole : Extent
+  stopped : Extent
+  cut : Extent
 
-abbrev pub kind_of : Status → Kind
-kind_of ReadFault = stopped
-kind_of Memory = stopped
-kind_of WriteFault = cut
-kind_of _ = whole
+abbrev pub extent_of : Status → Extent
+extent_of ReadFault = stopped
+extent_of Memory = stopped
+extent_of WriteFault = cut
+extent_of _ = whole

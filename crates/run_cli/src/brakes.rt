@@ -1,10 +1,11 @@
 //! The form `brakes`: the braking list of a train on a line.
 
 ghost use Rattle.std.specs.Prelude.{◌≡◌, ◌≤◌, ◌+◌, ◌*◌, Some, IfOk, OnOk, OnErr};
-ghost use Rattle.case_rules.specs.Case.{train_caps, train_rule};
+ghost use Rattle.case_rules.specs.Case.{plan_caps, train_rule};
+ghost use Rattle.plan_tables.specs.Plan.{empty_plan};
 ghost use Rattle.run_cli.specs.Brakes.{brakes_allows, brakes_means};
 ghost use Rattle.run_cli.specs.FileLaws.{alone};
-ghost use Rattle.run_cli.specs.Files.{AreTables, IsLine, IsStock};
+ghost use Rattle.run_cli.specs.Files.{AreTables};
 ghost use Rattle.run_cli.specs.Forms.{meaning_of};
 ghost use Rattle.run_cli.specs.Loads.{Loads};
 ghost use Rattle.run_rules.specs.Runs.{IsBrakingList};
@@ -15,8 +16,9 @@ use crate::files::load_both;
 use crate::form::Form;
 use crate::report::ListReport;
 use crate::walks::braking_list;
-use case_rules::{rule_on, standing_limits};
+use case_rules::{plan_limits, rule_on};
 use line_tables::Line;
+use plan_tables::Plan;
 use run_io::Shelf;
 use run_words::BrakesForm;
 use std::alloc::Global;
@@ -34,7 +36,7 @@ impl<'a> Form for BrakesForm<'a> {
     ghost are = { λ f. AreTables f.line.now f.stock.now };
 
     ghost right = { λ f both r.
-        IsBrakingList (train_rule both.0 both.1) (train_caps both.0 both.1) r.numbers.items };
+        IsBrakingList (train_rule both.0 both.1) (plan_caps both.0 both.1 empty_plan) r.numbers.items };
 
     ghost cost = { λ f both. 33 * (both.0.length + 1) };
 
@@ -49,7 +51,7 @@ impl<'a> Form for BrakesForm<'a> {
         steps: &mut Steps<L>,
     ) -> Result<ListReport, Memory> {
         let (line, stock) = both;
-        let limits = standing_limits(alloc, &line, &stock)?;
+        let limits = plan_limits(alloc, &line, &stock, &Plan::new(alloc))?;
         let rule = rule_on(alloc, &line, stock)?;
         let numbers = braking_list(alloc, &rule, &limits, steps)?;
         Ok(ListReport { numbers })

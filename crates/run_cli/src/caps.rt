@@ -1,10 +1,11 @@
 //! The form `caps`: the cap at each point of a line.
 
 ghost use Rattle.std.specs.Prelude.{◌≡◌, ◌≤◌, ◌+◌, [], Some, IfOk, OnOk, OnErr};
+ghost use Rattle.unit_rules.specs.Limits.{longest_line};
 ghost use Rattle.limit_profile.specs.Profile.{caps};
 ghost use Rattle.run_cli.specs.Caps.{caps_allows, caps_means};
 ghost use Rattle.run_cli.specs.FileLaws.{alone};
-ghost use Rattle.run_cli.specs.Files.{IsLine};
+ghost use Rattle.run_cli.specs.Files.{IsRead, line_reading};
 ghost use Rattle.run_cli.specs.Forms.{meaning_of};
 ghost use Rattle.run_cli.specs.Loads.{Loads};
 ghost use Rattle.run_rules.specs.Caps.{caps_of};
@@ -29,7 +30,7 @@ impl<'a> Form for CapsForm<'a> {
 
     ghost request = { caps_view };
 
-    ghost are = { λ f told line. IsLine told f.line.now line };
+    ghost are = { λ f told line. IsRead line_reading told f.line.now line };
 
     ghost right = { λ f line r. r.numbers.items ≡
         caps_of line.length f.train f.top line.limits [] };
@@ -68,7 +69,7 @@ impl<'a> Form for CapsForm<'a> {
 // The caps at all points of a line of that length.
 fn list_caps(alloc: Global, limits: &Limits, length: u32) -> Result<Vec<u32>, Memory>
     requires length { length ≡ limits.now.length }
-    requires short { length ≤ 500000 }
+    requires short { length ≤ longest_line }
     ensures { IfOk result (λ list. list.items ≡ caps limits.now) }
 {
     let mut caps = Vec::new(alloc);

@@ -2,10 +2,11 @@
 //! stalled.
 
 ghost use Rattle.std.specs.Prelude.{◌≡◌, ◌≤◌, ◌+◌, ◌*◌, Some, IfOk, OnOk, OnErr};
-ghost use Rattle.case_rules.specs.Case.{train_caps, train_rule};
+ghost use Rattle.case_rules.specs.Case.{plan_caps, train_rule};
+ghost use Rattle.plan_tables.specs.Plan.{empty_plan};
 ghost use Rattle.run_cli.specs.Envelope.{envelope_allows, envelope_means};
 ghost use Rattle.run_cli.specs.FileLaws.{alone};
-ghost use Rattle.run_cli.specs.Files.{AreTables, IsLine, IsStock};
+ghost use Rattle.run_cli.specs.Files.{AreTables};
 ghost use Rattle.run_cli.specs.Forms.{meaning_of};
 ghost use Rattle.run_cli.specs.Loads.{Loads};
 ghost use Rattle.run_rules.specs.Runs.{ReachesAs};
@@ -15,10 +16,9 @@ use crate::Status;
 use crate::files::load_both;
 use crate::form::Form;
 use crate::report::EnvelopeReport;
-use crate::walks::braking_list;
-use case_rules::{rule_on, standing_limits};
-use effort_run::walk_on;
+use crate::walks::envelope_by;
 use line_tables::Line;
+use plan_tables::Plan;
 use run_io::Shelf;
 use run_words::EnvelopeForm;
 use std::alloc::Global;
@@ -36,7 +36,7 @@ impl<'a> Form for EnvelopeForm<'a> {
     ghost are = { λ f. AreTables f.line.now f.stock.now };
 
     ghost right = { λ f both r.
-        ReachesAs (train_rule both.0 both.1) (train_caps both.0 both.1) r.speeds.items r.reach };
+        ReachesAs (train_rule both.0 both.1) (plan_caps both.0 both.1 empty_plan) r.speeds.items r.reach };
 
     ghost cost = { λ f both. 33 * (both.0.length + 1) + both.0.length };
 
@@ -51,7 +51,7 @@ impl<'a> Form for EnvelopeForm<'a> {
         steps: &mut Steps<L>,
     ) -> Result<EnvelopeReport, Memory> {
         let (line, stock) = both;
-        standing_envelope(alloc, &line, stock, steps)
+        envelope_by(alloc, &line, stock, &Plan::new(alloc), steps)
     }
 
     ghost files_alone = { λ f. alone _ _ _ _ };
@@ -59,28 +59,4 @@ impl<'a> Form for EnvelopeForm<'a> {
     ghost means = { envelope_means };
 
     ghost allows = { envelope_allows };
-}
-
-// The envelope of a stock on a line, where it stands at both ends.
-fn standing_envelope<L: Ledger>(
-    alloc: Global,
-    line: &Line,
-    stock: Stock,
-    steps: &mut Steps<L>,
-) -> Result<EnvelopeReport, Memory>
-    ensures envelope { IfOk result (λ r.
-        ReachesAs (train_rule line.now stock) (train_caps line.now stock) r.speeds.items r.reach) }
-    ensures steps { steps.new ≤ steps.old + (33 * (line.now.length + 1) + line.now.length) }
-{
-    let limits = standing_limits(alloc, line, &stock)?;
-    let rule = rule_on(alloc, line, stock)?;
-    let brakes = braking_list(alloc, &rule, &limits, steps)?;
-    let Ok(mut speeds) = Vec::from_elem(alloc, 0, brakes.len()) else {
-        return Err(Memory);
-    };
-    let walk = walk_on(&rule, &brakes, 0, rule.cells(), &mut speeds, 0, steps);
-    Ok(EnvelopeReport {
-        reach: walk.reach,
-        speeds,
-    })
 }

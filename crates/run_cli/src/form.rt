@@ -5,7 +5,7 @@ ghost use Rattle.run_io.specs.Fetches.{Files};
 ghost use Rattle.run_io.specs.Told.{HasCause, Writes, WritesFront};
 ghost use Rattle.run_cli.specs.Ends.{outside};
 ghost use Rattle.run_cli.specs.Forms.{meaning_of};
-ghost use Rattle.run_cli.specs.Loads.{Loads};
+ghost use Rattle.run_cli.specs.Loads.{AsksOnce, Loads};
 ghost use Rattle.run_cli.specs.Meanings.{IsFileForm};
 ghost use Rattle.run_cli.specs.Serves.{Finishes, IsMeant, Serves, Works};
 ghost use Rattle.run_cli.specs.declared.status.Status.{Status as Ending};
@@ -65,6 +65,9 @@ pub(crate) trait Form {
         ensures loads { Loads
             ((meaning_of (Some (request self.now))).reads (S.told shelf.old).holds)
             (S.told shelf.old) (S.told shelf.new) result }
+        ensures asks { AsksOnce
+            ((meaning_of (Some (request self.now))).reads (S.told shelf.old).holds)
+            (S.asked shelf.old) (S.asked shelf.new) }
         ensures are { IfOk result (are self.now (S.told shelf.old).holds) };
 
     /// Makes the report, and takes all memory that the form needs beside its tables.
@@ -102,10 +105,13 @@ pub(crate) fn serve<F: Form, S: Shelf, I: Source, K: Sink, L: Ledger>(
     out: &mut K,
     steps: &mut Steps<L>,
 ) -> Status
-    ensures { Serves (meaning_of (Some (F.request form.now)))
+    ensures serves { Serves (meaning_of (Some (F.request form.now)))
         (outside (S.told shelf.old) (I.told _input.old) (K.told out.old))
         (outside (S.told shelf.new) (I.told _input.new) (K.told out.new))
         steps.old steps.new result }
+    ensures asks { AsksOnce
+        ((meaning_of (Some (F.request form.now))).reads (S.told shelf.old).holds)
+        (S.asked shelf.old) (S.asked shelf.new) }
 {
     match form.load(alloc, shelf) {
         Ok(tables) => work(alloc, form, tables, out, steps),

@@ -5,19 +5,23 @@
 ghost use Rattle.std.specs.Prelude.{◌≡◌, Some, map, string_bytes};
 ghost use Rattle.run_cli.specs.Ends.{EndsAs, HasCause, IsComplete, TakesInput, TakesSteps, outside};
 ghost use Rattle.run_cli.specs.Forms.{WordsAnswerOnce, meaning_of, meant_by};
+ghost use Rattle.run_cli.specs.Loads.{AsksOnce};
 ghost use Rattle.run_cli.specs.Serves.{Serves};
 ghost use Rattle.run_words.specs.Requests.{view};
 
 mod brakes;
 mod caps;
+mod cases;
 mod envelope;
 mod files;
 mod form;
+mod plan;
 mod report;
 mod rise;
 mod rise_report;
 mod status;
 mod stock;
+mod timetable_report;
 mod walks;
 
 use crate::form::{refuse, serve};
@@ -54,6 +58,8 @@ pub fn run<S: Shelf, I: Source, K: Sink, L: Ledger>(
     ensures steps { TakesSteps (meant_by (map string_bytes words.now))
         (outside (S.told shelf.old) (I.told input.old) (K.told out.old))
         (outside (S.told shelf.new) (I.told input.new) (K.told out.new)) steps.old steps.new }
+    ensures asks { AsksOnce ((meant_by (map string_bytes words.now)).reads (S.told shelf.old).holds)
+        (S.asked shelf.old) (S.asked shelf.new) }
 {
     serve_words(alloc, words, shelf, input, out, steps)
 }
@@ -74,10 +80,12 @@ fn serve_words<S: Shelf, I: Source, K: Sink, L: Ledger>(
     out: &mut K,
     steps: &mut Steps<L>,
 ) -> Status
-    ensures { Serves (meant_by (map string_bytes words.now))
+    ensures serves { Serves (meant_by (map string_bytes words.now))
         (outside (S.told shelf.old) (I.told input.old) (K.told out.old))
         (outside (S.told shelf.new) (I.told input.new) (K.told out.new))
         steps.old steps.new result }
+    ensures asks { AsksOnce ((meant_by (map string_bytes words.now)).reads (S.told shelf.old).holds)
+        (S.asked shelf.old) (S.asked shelf.new) }
 {
     match read_request(alloc, words) {
         Ok(None) => refuse(Status::Usage, out),
@@ -95,10 +103,13 @@ fn serve_request<S: Shelf, I: Source, K: Sink, L: Ledger>(
     out: &mut K,
     steps: &mut Steps<L>,
 ) -> Status
-    ensures { Serves (meaning_of (Some (view request.entry)))
+    ensures serves { Serves (meaning_of (Some (view request.entry)))
         (outside (S.told shelf.old) (I.told input.old) (K.told out.old))
         (outside (S.told shelf.new) (I.told input.new) (K.told out.new))
         steps.old steps.new result }
+    ensures asks { AsksOnce
+        ((meaning_of (Some (view request.entry))).reads (S.told shelf.old).holds)
+        (S.asked shelf.old) (S.asked shelf.new) }
 {
     match request {
         Request::Caps(form) => serve(alloc, &form, shelf, input, out, steps),
@@ -106,5 +117,6 @@ fn serve_request<S: Shelf, I: Source, K: Sink, L: Ledger>(
         Request::Rise(form) => serve(alloc, &form, shelf, input, out, steps),
         Request::Brakes(form) => serve(alloc, &form, shelf, input, out, steps),
         Request::Envelope(form) => serve(alloc, &form, shelf, input, out, steps),
+        Request::Plan(form) => serve(alloc, &form, shelf, input, out, steps),
     }
 }

@@ -3,11 +3,13 @@
 ghost use Rattle.std.specs.Prelude.{◌≡◌, ◌≤◌, ◌+◌, ◌*◌, OnOk, OnErr};
 ghost use Rattle.report_text.specs.Texts.{bands_text, list_text};
 ghost use Rattle.run_cli.specs.Envelope.{envelope_status, envelope_text};
+ghost use Rattle.run_cli.specs.Plan.{found_status, found_text};
 ghost use Rattle.run_cli.specs.declared.status.Status.TheVariants.{Done};
 
 use crate::Status;
 use crate::form::Report;
-use report_text::{write_bands, write_list, write_reach};
+use crate::timetable_report::TimetableReport;
+use report_text::{write_bands, write_list, write_reach, write_timetable};
 use run_io::{Failed, Sink};
 use std::sync::ledger::Ledger;
 use stock_tables::Stock;
@@ -83,6 +85,35 @@ impl Report for EnvelopeReport {
         match self.reach {
             Reach::Whole => Status::Done,
             Reach::Stalled { k } => Status::Stalled { point: k },
+        }
+    }
+}
+
+// What a plan was found to give: the speeds of its run, or their stall; or the times of its calls.
+#[derive(Drop)]
+pub(crate) enum PlanReport {
+    Speeds(EnvelopeReport),
+    Times(TimetableReport),
+}
+
+impl Report for PlanReport {
+    ghost text = { found_text };
+
+    ghost ending = { found_status };
+
+    ghost work = { λ r. 0 };
+
+    fn write<K: Sink, L: Ledger>(&self, out: &mut K, steps: &mut Steps<L>) -> Result<(), Failed> {
+        match self {
+            PlanReport::Speeds(report) => report.write(out, steps),
+            PlanReport::Times(report) => write_timetable(out, &report.rows, &report.plan),
+        }
+    }
+
+    fn status(&self) -> Status {
+        match self {
+            PlanReport::Speeds(report) => report.status(),
+            PlanReport::Times(_) => Status::Done,
         }
     }
 }

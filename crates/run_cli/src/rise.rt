@@ -1,8 +1,9 @@
 //! The form `rise`: what the step rule makes of a speed at each cell of a line.
 
 ghost use Rattle.std.specs.Prelude.{◌≡◌, ◌≤◌, ◌<◌, ◌+◌, ◌*◌, ◌++◌, ◌∷◌, [], min, Some, OnOk, OnErr, IfOk};
+ghost use Rattle.unit_rules.specs.Limits.{greatest_speed};
 ghost use Rattle.run_cli.specs.FileLaws.{alone};
-ghost use Rattle.run_cli.specs.Files.{AreTables, IsLine, IsStock};
+ghost use Rattle.run_cli.specs.Files.{AreTables};
 ghost use Rattle.run_cli.specs.Forms.{meaning_of};
 ghost use Rattle.run_cli.specs.Loads.{Loads};
 ghost use Rattle.run_cli.specs.Rise.{rise_allows, rise_line, rise_means, rise_text, shown_rise};
@@ -98,7 +99,7 @@ impl<'a> Form for RiseForm<'a> {
 // What the form shows of a stock on a line, from so many km/h, or from its top speed where that is
 // less.
 fn rise_from(alloc: Global, line: &Line, stock: Stock, kmh: u32) -> Result<RiseReport, Memory>
-    requires { kmh ≤ 500 }
+    requires { kmh ≤ greatest_speed }
     ensures shown { IfOk result (λ r. shown_rise r ≡ rise_text line.now stock kmh) }
     ensures cells { IfOk result (λ r. cells_of r.rule ≡ line.now.length) }
 {

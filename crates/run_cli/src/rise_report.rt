@@ -1,6 +1,7 @@
 //! What the form `rise` shows.
 
 ghost use Rattle.std.specs.Prelude.{◌≡◌, ◌≤◌};
+ghost use Rattle.unit_rules.specs.Limits.{longest_line};
 ghost use Rattle.step_rule.specs.Motion.{cells_of, most_of};
 
 use step_rule::Rule;
@@ -16,5 +17,5 @@ pub(crate) struct RiseReport {
     ghost same: { pulls.items ≡ rule.pulls },
     ghost in_range: { before ≤ most_of rule },
     ghost all: { cells ≡ cells_of rule },
-    ghost few: { cells ≤ 500000 },
+    ghost few: { cells ≤ longest_line },
 }

@@ -2,12 +2,14 @@
 
 ghost use Rattle.std.specs.Prelude.{◌≡◌, ◌++◌, []};
 ghost use Rattle.run_cli.specs.Exits.{exit_of};
-ghost use Rattle.run_cli.specs.Statuses.{law_rule, line_status, status_text, stock_status};
+ghost use Rattle.run_cli.specs.Statuses.{law_rule, line_status, plan_status, status_text, stock_status};
 ghost use Rattle.run_cli.specs.declared.status.Status.TheVariants.{Memory as NoMemory, WriteFault};
 
+use crate::files::{LINE_FILE, PLAN_FILE, STOCK_FILE};
 use line_tables::LineFault;
+use plan_tables::PlanFault;
 use run_io::{Block, Failed};
-use stock_tables::StockFault;
+use stock_tables::{BRAKE_LAW, EFFORT_KEY, EFFORT_LAW, StockFault};
 use unit_rules::Memory;
 
 /// How a run ends.
@@ -113,18 +115,22 @@ impl From<StockFault> for Status {
             StockFault::Memory => return Status::Memory,
         };
         Status::Refused {
-            file: 2,
+            file: STOCK_FILE,
             place: place as u64,
             rule,
         }
     }
 }
 
-// The rule that a table breaks whose law is broken: 5 for effort, which is key 5, and 6 for brake.
+// The rule of the law of a table, by its key.
 fn law_rule(table: u32) -> u32
     ensures { result ≡ law_rule table }
 {
-    if table == 5 { 5 } else { 6 }
+    if table == EFFORT_KEY {
+        EFFORT_LAW
+    } else {
+        BRAKE_LAW
+    }
 }
 
 impl From<LineFault> for Status {
@@ -133,16 +139,31 @@ impl From<LineFault> for Status {
     fn from(fault: LineFault) -> Status {
         match fault {
             LineFault::Bad { place, rule } => Status::Refused {
-                file: 1,
+                file: LINE_FILE,
                 place,
                 rule,
             },
             LineFault::Missing => Status::Refused {
-                file: 1,
+                file: LINE_FILE,
                 place: 0,
                 rule: 0,
             },
             LineFault::Memory => Status::Memory,
+        }
+    }
+}
+
+impl From<PlanFault> for Status {
+    ghost from_gives = { λ e s. s ≡ plan_status e };
+
+    fn from(fault: PlanFault) -> Status {
+        match fault {
+            PlanFault::Bad { place, rule } => Status::Refused {
+                file: PLAN_FILE,
+                place,
+                rule,
+            },
+            PlanFault::Memory => Status::Memory,
         }
     }
 }

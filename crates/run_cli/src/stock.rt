@@ -2,7 +2,7 @@
 
 ghost use Rattle.std.specs.Prelude.{◌≡◌, ◌≤◌, ◌+◌, Some, IfOk};
 ghost use Rattle.run_cli.specs.FileLaws.{alone};
-ghost use Rattle.run_cli.specs.Files.{IsStock};
+ghost use Rattle.run_cli.specs.Files.{IsRead, stock_reading};
 ghost use Rattle.run_cli.specs.Forms.{meaning_of};
 ghost use Rattle.run_cli.specs.Loads.{Loads};
 ghost use Rattle.run_cli.specs.Stock.{stock_allows, stock_means};
@@ -26,7 +26,7 @@ impl<'a> Form for StockForm<'a> {
 
     ghost request = { stock_view };
 
-    ghost are = { λ f told stock. IsStock told f.stock.now stock };
+    ghost are = { λ f told stock. IsRead stock_reading told f.stock.now stock };
 
     ghost right = { λ f stock r. r.stock ≡ stock };
 

@@ -1,12 +1,10 @@
 -- Words that are written out, and what they ask for.
-use Rattle.std.proofs.Common.{◌≡◌, [], ◌∷◌, Some, None, codes, refl, option_map}
+use Rattle.std.proofs.Common.{◌≡◌, [], ◌∷◌, Some, None, codes, refl}
 use Rattle.clap.proofs.OnLiterals.{clap_on_literals}
-use Rattle.clap.specs.Words.{first_of}
 use Rattle.unit_rules.specs.Numeral.{whole_of}
-use Rattle.run_words.specs.Commands.{rows_in}
-use Rattle.run_words.specs.PlanWords.{plan_app}
 use Rattle.run_words.specs.Requests.{request_of}
-use Rattle.run_words.specs.Requests.Request.{Caps, Stock, Rise, Brakes, Envelope}
+use Rattle.run_words.specs.Requests.Request.{Caps, Stock, Rise, Brakes, Envelope, Plan}
+use Rattle.run_words.specs.declared.requests.Print.TheVariants as print
 
 caps_words : request_of (codes "caps" ∷ codes "l" ∷ codes "5000" ∷ codes "500" ∷ [])
     ≡ Some (Caps (codes "l") 5000 500)
@@ -79,31 +77,36 @@ unknown_command = refl
 no_words : request_of [] ≡ None
 no_words = refl
 
--- an option stands anywhere; its value is the next word or stands behind `=`, and only there may it
--- begin with a dash
-option_in_front : option_map (first_of (codes "print")) (rows_in plan_app
-    (codes "plan" ∷ codes "--print=cert" ∷ codes "l" ∷ codes "s" ∷ codes "p" ∷ []))
-    ≡ Some (Some (codes "cert"))
+-- an option stands anywhere; its value is the next word, or stands behind `=`
+option_in_front : request_of (codes "plan" ∷ codes "--print=timetable" ∷ codes "l" ∷ codes "s" ∷ codes "p" ∷ [])
+    ≡ Some (Plan (codes "l") (codes "s") (codes "p") print.Timetable)
 unfolding clap_on_literals
 option_in_front = refl
 
-option_behind : option_map (first_of (codes "edits")) (rows_in plan_app
-    (codes "plan" ∷ codes "l" ∷ codes "s" ∷ codes "p" ∷ codes "--edits=-x"
-    ∷ codes "--print" ∷ codes "cert" ∷ []))
-    ≡ Some (Some (codes "-x"))
+option_behind : request_of (codes "plan" ∷ codes "l" ∷ codes "s" ∷ codes "p" ∷ codes "--print" ∷ codes "envelope" ∷ [])
+    ≡ Some (Plan (codes "l") (codes "s") (codes "p") print.Envelope)
 unfolding clap_on_literals
 option_behind = refl
 
-option_twice : rows_in plan_app (codes "plan" ∷ codes "l" ∷ codes "s" ∷ codes "p"
-    ∷ codes "--print" ∷ codes "cert" ∷ codes "--print" ∷ codes "cert" ∷ []) ≡ None
+option_twice : request_of (codes "plan" ∷ codes "l" ∷ codes "s" ∷ codes "p"
+    ∷ codes "--print" ∷ codes "envelope" ∷ codes "--print" ∷ codes "envelope" ∷ []) ≡ None
 unfolding clap_on_literals
 option_twice = refl
 
-option_missing : rows_in plan_app (codes "plan" ∷ codes "l" ∷ codes "s" ∷ codes "p" ∷ []) ≡ None
+option_missing : request_of (codes "plan" ∷ codes "l" ∷ codes "s" ∷ codes "p" ∷ []) ≡ None
 unfolding clap_on_literals
 option_missing = refl
 
-value_missing : rows_in plan_app
-    (codes "plan" ∷ codes "l" ∷ codes "s" ∷ codes "p" ∷ codes "--print" ∷ []) ≡ None
+value_missing : request_of (codes "plan" ∷ codes "l" ∷ codes "s" ∷ codes "p" ∷ codes "--print" ∷ []) ≡ None
 unfolding clap_on_literals
 value_missing = refl
+
+-- what else may be printed isn't there yet, and neither are edits
+other_print : request_of (codes "plan" ∷ codes "l" ∷ codes "s" ∷ codes "p" ∷ codes "--print" ∷ codes "cert" ∷ []) ≡ None
+unfolding clap_on_literals
+other_print = refl
+
+other_option : request_of (codes "plan" ∷ codes "l" ∷ codes "s" ∷ codes "p"
+    ∷ codes "--print" ∷ codes "envelope" ∷ codes "--edits" ∷ codes "e" ∷ []) ≡ None
+unfolding clap_on_literals
+other_option = refl

@@ -1,12 +1,16 @@
 -- The forms of a command line, and what each of them asks for.
-use Rattle.std.specs.Prelude.{ℕ, Bool, false, List, [], ◌∷◌, Option, Some, None, option_and_then}
+use Rattle.std.specs.Prelude.{ℕ, Bool, false, true, List, [], ◌∷◌, Option, Some, None, option_and_then}
 use Rattle.std.specs.Prelude.{codes, if◌then◌else◌}
 use Rattle.std.specs.Str.{bytes_eq}
+use Rattle.unit_rules.specs.Limits.{greatest_speed, longest_train}
 use Rattle.clap.specs.Words.{App, Row, Text, first_of}
-use Rattle.run_words.specs.Commands.{◌taking◌, number_of, plain_app, positional, rows_in}
+use Rattle.run_words.specs.Commands.{◌taking◌, number_of, option_named, plain_app, positional, rows_in}
 use Rattle.run_words.specs.declared.requests.BrakesForm.{BrakesForm}
 use Rattle.run_words.specs.declared.requests.CapsForm.{CapsForm}
 use Rattle.run_words.specs.declared.requests.EnvelopeForm.{EnvelopeForm}
+use Rattle.run_words.specs.declared.requests.PlanForm.{PlanForm}
+use Rattle.run_words.specs.declared.requests.Print.{Print}
+use Rattle.run_words.specs.declared.requests.Print.TheVariants as print
 use Rattle.run_words.specs.declared.requests.RiseForm.{RiseForm}
 use Rattle.run_words.specs.declared.requests.StockForm.{StockForm}
 use Rattle.run_words.specs.declared.requests.Request.{Request as Form}
@@ -19,6 +23,7 @@ pub data Request : Type 0 where
   Rise : List ℕ → List ℕ → ℕ → Request
   Brakes : List ℕ → List ℕ → Request
   Envelope : List ℕ → List ℕ → Request
+  Plan : List ℕ → List ℕ → List ℕ → Print → Request
 
 infixl 9 ◌>>=◌
 abbrev ◌>>=◌ : {A B : Type 0} → Option A → (A → Option B) → Option B
@@ -33,8 +38,8 @@ caps_app =
 abbrev pub caps_in : List Row → Option Request
 caps_in rows = do
   line ← first_of (codes "line") rows
-  length ← number_of 1 5000 (codes "length") rows
-  top ← number_of 1 500 (codes "top") rows
+  length ← number_of 1 longest_train (codes "length") rows
+  top ← number_of 1 greatest_speed (codes "top") rows
   Some (Caps line length top)
 
 -- `stock STOCK`
@@ -58,7 +63,7 @@ abbrev pub rise_in : List Row → Option Request
 rise_in rows = do
   line ← first_of (codes "line") rows
   stock ← first_of (codes "stock") rows
-  kmh ← number_of 0 500 (codes "kmh") rows
+  kmh ← number_of 0 greatest_speed (codes "kmh") rows
   Some (Rise line stock kmh)
 
 -- `brakes LINE STOCK`
@@ -81,6 +86,26 @@ envelope_in rows = do
   stock ← first_of (codes "stock") rows
   Some (Envelope line stock)
 
+-- what a plan is asked to print, by its word
+abbrev pub print_of : Text → Option Print
+print_of word =
+    if bytes_eq word (codes "envelope") then Some print.Envelope
+    else if bytes_eq word (codes "timetable") then Some print.Timetable
+    else None
+
+-- `plan LINE STOCK PLAN --print envelope|timetable`
+abbrev pub plan_app : App
+plan_app = train_app (codes "plan") taking positional (codes "plan") taking option_named true (codes "print")
+
+abbrev pub plan_in : List Row → Option Request
+plan_in rows = do
+  line ← first_of (codes "line") rows
+  stock ← first_of (codes "stock") rows
+  plan ← first_of (codes "plan") rows
+  word ← first_of (codes "print") rows
+  kind ← print_of word
+  Some (Plan line stock plan kind)
+
 -- the first of the words is this name
 abbrev pub asks : List Text → Text → Bool
 asks [] name = false
@@ -95,6 +120,7 @@ request_of words =
     else if asks words (codes "rise") then rows_in rise_app words >>= rise_in
     else if asks words (codes "brakes") then rows_in brakes_app words >>= brakes_in
     else if asks words (codes "envelope") then rows_in envelope_app words >>= envelope_in
+    else if asks words (codes "plan") then rows_in plan_app words >>= plan_in
     else None
 
 -- what each form that was read asks for
@@ -113,6 +139,9 @@ brakes_view f = Brakes f.line.now f.stock.now
 abbrev pub envelope_view : EnvelopeForm → Request
 envelope_view f = Envelope f.line.now f.stock.now
 
+abbrev pub plan_view : PlanForm → Request
+plan_view f = Plan f.line.now f.stock.now f.plan.now f.print
+
 -- what a request that was read asks for
 abbrev pub view : Form → Request
 view (form.Caps f) = caps_view f
@@ -120,3 +149,4 @@ view (form.Stock f) = stock_view f
 view (form.Rise f) = rise_view f
 view (form.Brakes f) = brakes_view f
 view (form.Envelope f) = envelope_view f
+view (form.Plan f) = plan_view f

@@ -30,7 +30,7 @@ pub(crate) fn with_value<'a>(
 ) -> Result<Command<'a>, Memory>
     ensures { IfOk result (λ c. app_of c ≡ (app_of command.entry taking positional id.entry.now)) }
 {
-    with_argument(command, value_at(alloc, id))
+    with_argument(command, value_by_place(alloc, id))
 }
 
 // The command with one more option `--ID VALUE`.
@@ -55,7 +55,7 @@ fn with_argument<'a>(command: Command<'a>, argument: Arg<'a>) -> Result<Command<
 }
 
 // A value that has to be there, by its place.
-fn value_at<'a>(alloc: Global, id: &'a str) -> Arg<'a>
+fn value_by_place<'a>(alloc: Global, id: &'a str) -> Arg<'a>
     ensures rule { rule_of result ≡ positional id.entry.now }
     ensures own { result.global ≡ false }
 {

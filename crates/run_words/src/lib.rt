@@ -4,25 +4,28 @@
 ghost use Rattle.std.specs.Prelude.{◌≡◌, IfOk, map, option_and_then, option_map, string_bytes};
 ghost use Rattle.clap.specs.Words.{app_of, found_of, rows_of};
 ghost use Rattle.run_words.specs.Commands.{rows_in};
-ghost use Rattle.run_words.specs.Requests.{asks, request_of, view};
-ghost use Rattle.run_words.specs.Requests.{brakes_app, caps_app, envelope_app, rise_app, stock_app, train_app};
-ghost use Rattle.run_words.specs.Requests.{brakes_in, caps_in, envelope_in, rise_in, stock_in};
+ghost use Rattle.run_words.specs.Requests.{asks, print_of, request_of, view};
+ghost use Rattle.run_words.specs.Requests.{brakes_app, caps_app, envelope_app, plan_app, rise_app, stock_app, train_app};
+ghost use Rattle.run_words.specs.Requests.{brakes_in, caps_in, envelope_in, plan_in, rise_in, stock_in};
 
 mod command;
 mod requests;
 
-use crate::command::{matches_by, number_of, plain_command, value_of, with_value};
+use crate::command::{matches_by, number_of, plain_command, value_of, with_option, with_value};
 use clap::{ArgMatches, Command};
-pub use requests::{BrakesForm, CapsForm, EnvelopeForm, Request, RiseForm, StockForm};
+pub use requests::{
+    BrakesForm, CapsForm, EnvelopeForm, PlanForm, Print, Request, RiseForm, StockForm,
+};
 use std::alloc::Global;
-use unit_rules::Memory;
+use unit_rules::{GREATEST_SPEED, LONGEST_TRAIN, Memory};
 
 /// What the words ask for, or None where they are none of the forms:
 /// - `caps LINE LENGTH TOP`, with a length from 1 to 5000 m and a top speed from 1 to 500 km/h,
 /// - `stock STOCK`,
 /// - `rise LINE STOCK KMH`, with a speed from 0 to 500 km/h,
 /// - `brakes LINE STOCK`,
-/// - `envelope LINE STOCK`.
+/// - `envelope LINE STOCK`,
+/// - `plan LINE STOCK PLAN --print envelope`, or `timetable`.
 ///
 /// A number has no sign, no space and no zero in front. A word that begins with a dash stands behind
 /// a word `--`, but for a dash alone.
@@ -39,6 +42,8 @@ pub fn read_request<'a>(alloc: Global, words: &'a [String]) -> Result<Option<Req
         read_brakes(alloc, words)
     } else if asks(words, "envelope") {
         read_envelope(alloc, words)
+    } else if asks(words, "plan") {
+        read_plan(alloc, words)
     } else {
         Ok(None)
     }
@@ -75,8 +80,8 @@ fn caps_of<'a>(matches: &ArgMatches<'a>) -> Option<Request<'a>>
     ensures { option_map view result ≡ caps_in (rows_of (found_of matches.now)) }
 {
     let line = value_of(matches, "line")?;
-    let train = number_of(matches, "length", 1, 5000)?;
-    let top = number_of(matches, "top", 1, 500)?;
+    let train = number_of(matches, "length", 1, LONGEST_TRAIN)?;
+    let top = number_of(matches, "top", 1, GREATEST_SPEED)?;
     Some(Request::Caps(CapsForm { line, train, top }))
 }
 
@@ -137,7 +142,7 @@ fn rise_of<'a>(matches: &ArgMatches<'a>) -> Option<Request<'a>>
 {
     let line = value_of(matches, "line")?;
     let stock = value_of(matches, "stock")?;
-    let kmh = number_of(matches, "kmh", 0, 500)?;
+    let kmh = number_of(matches, "kmh", 0, GREATEST_SPEED)?;
     Some(Request::Rise(RiseForm { line, stock, kmh }))
 }
 
@@ -179,5 +184,47 @@ fn envelope_of<'a>(matches: &ArgMatches<'a>) -> Option<Request<'a>>
     Some(Request::Envelope(EnvelopeForm { line, stock }))
 }
 
-#[cfg(test)]
-mod tests;
+// Reads `plan LINE STOCK PLAN --print KIND`.
+fn read_plan<'a>(alloc: Global, words: &'a [String]) -> Result<Option<Request<'a>>, Memory>
+    ensures { IfOk result (λ r. option_map view r
+        ≡ option_and_then plan_in (rows_in plan_app (map string_bytes words.entry.now))) }
+{
+    match matches_by(plan_command(alloc)?, words)? {
+        None => Ok(None),
+        Some(matches) => Ok(plan_of(&matches)),
+    }
+}
+
+fn plan_command<'a>(alloc: Global) -> Result<Command<'a>, Memory>
+    ensures { IfOk result (λ c. app_of c ≡ plan_app) }
+{
+    let command = train_command(alloc, "plan")?;
+    let command = with_value(alloc, command, "plan")?;
+    with_option(alloc, command, "print", true)
+}
+
+fn plan_of<'a>(matches: &ArgMatches<'a>) -> Option<Request<'a>>
+    ensures { option_map view result ≡ plan_in (rows_of (found_of matches.now)) }
+{
+    let line = value_of(matches, "line")?;
+    let stock = value_of(matches, "stock")?;
+    let plan = value_of(matches, "plan")?;
+    let print = print_of(value_of(matches, "print")?)?;
+    Some(Request::Plan(PlanForm {
+        line,
+        stock,
+        plan,
+        print,
+    }))
+}
+
+// What a plan is asked to print.
+fn print_of(word: &str) -> Option<Print>
+    ensures { result ≡ print_of word.now }
+{
+    match word {
+        "envelope" => Some(Print::Envelope),
+        "timetable" => Some(Print::Timetable),
+        _ => None,
+    }
+}

@@ -1,6 +1,7 @@
 //! The forms of a command line, with the names of their files and their numbers.
 
 ghost use Rattle.std.specs.Prelude.{◌≤◌};
+ghost use Rattle.unit_rules.specs.Limits.{greatest_speed, longest_train};
 
 /// `caps LINE LENGTH TOP`: the caps of a line for a train of that length and top speed.
 #[derive(Drop)]
@@ -12,9 +13,9 @@ pub struct CapsForm<'a> {
     /// The train's top speed in km/h, from 1 to 500.
     pub top: u32,
     pub ghost train_least: { 1 ≤ train },
-    pub ghost train_most: { train ≤ 5000 },
+    pub ghost train_most: { train ≤ longest_train },
     pub ghost top_least: { 1 ≤ top },
-    pub ghost top_most: { top ≤ 500 },
+    pub ghost top_most: { top ≤ greatest_speed },
 }
 
 /// `stock STOCK`: the tables of a train.
@@ -33,7 +34,7 @@ pub struct RiseForm<'a> {
     pub stock: &'a str,
     /// The speed in km/h, from 0 to 500.
     pub kmh: u32,
-    pub ghost kmh_most: { kmh ≤ 500 },
+    pub ghost kmh_most: { kmh ≤ greatest_speed },
 }
 
 /// `brakes LINE STOCK`: the braking list of a train on a line.
@@ -54,6 +55,29 @@ pub struct EnvelopeForm<'a> {
     pub stock: &'a str,
 }
 
+/// What a plan is asked to print.
+#[derive(Clone, Copy, Debug, PartialEq, Eq)]
+pub enum Print {
+    /// The speeds of the fastest run.
+    Envelope,
+    /// The times of its calls.
+    Timetable,
+}
+
+/// `plan LINE STOCK PLAN --print KIND`: the fastest run of a train over a line by a plan, or its
+/// timetable.
+#[derive(Drop)]
+pub struct PlanForm<'a> {
+    /// The name of the line's file.
+    pub line: &'a str,
+    /// The name of the train's file.
+    pub stock: &'a str,
+    /// The name of the plan's file.
+    pub plan: &'a str,
+    /// What is printed.
+    pub print: Print,
+}
+
 /// What the words of a command line ask for.
 #[derive(Drop)]
 pub enum Request<'a> {
@@ -67,4 +91,6 @@ pub enum Request<'a> {
     Brakes(BrakesForm<'a>),
     /// The fastest run of a train over a line.
     Envelope(EnvelopeForm<'a>),
+    /// The fastest run by a plan, or its timetable.
+    Plan(PlanForm<'a>),
 }
