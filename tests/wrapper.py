@@ -24,7 +24,7 @@ sys.dont_write_bytecode = True  # the sources have no folder of compiled ones be
 import compare
 
 SECONDS = 20
-TOOLS = "bash cat cp cut find flock grep mkdir mktemp readlink rm sleep touch tr wc".split()
+TOOLS = "bash cat cp cut find flock grep mkdir mktemp readlink rm sh sleep touch tr wc".split()
 RT_TOOLS = ["chmod", "head", "setsid"]  # which only the `rt` below needs
 LINE = "line,Two,2\n"
 SIGNALS = signal.SIGINT, signal.SIGTERM, signal.SIGHUP
@@ -48,7 +48,7 @@ HALF = RT + 'head -c 9999 "$PROGRAM" >out/rtime; chmod +x out/rtime\n' + WAIT + 
 LATE = RT + 'setsid bash -c "sleep 0.5; cp $PROGRAM out/rtime" &\n' + WAIT + "exit 1\n"
 REFUSES = RT + "echo 'fn rtime::main: REFUSED'; exit 1\n"
 STEPS = [
-    "rtime: proving and building the program, once: this takes about a quarter of an hour",
+    "rtime: proving and building the program, once: this takes some twenty minutes",
     "rtime: crate 1 of 2: unit_rules is proved",
     "rtime: crate 2 of 2: rtime is proved",
 ]
@@ -74,7 +74,8 @@ class Try:
 
     def lay_sources(self):
         """Lays the wrapper, the crates and a line file."""
-        shutil.copy(compare.TOP / "rtime", self.repo)
+        for file in "rtime", "build.sh":
+            shutil.copy(compare.TOP / file, self.repo)
         (self.repo / "crates.txt").write_text("unit_rules:\nrtime: unit_rules\n")
         for crate in CRATES:
             for part in ("src", "specs", "proofs"):
