@@ -15,7 +15,7 @@ import subprocess
 import sys
 import tempfile
 from collections.abc import Callable, Iterator, Sequence
-from dataclasses import dataclass
+from dataclasses import dataclass, replace
 
 TOP = pathlib.Path(__file__).resolve().parent.parent
 PROGRAM = TOP / "crates" / "rtime" / "out" / "rtime"
@@ -29,6 +29,9 @@ LIMITS = (60, 100, 40, 120, 80)  # km/h, by turns
 GRADIENTS = (0, 40, 85, -30, 120, -75, 15, -110, 60, -20)  # tenths of a per mille, by turns
 GRADIENT_METRES = 500
 STOP_METRES, STOP_LENGTH, STOP_KMH = 250, 20, 5  # of the stopping line: m, m and km/h
+DWELLS = (30, 60, 20)  # s, by turns
+ALLOWANCES = ("percent,50", "per100km,180", "fixed,60")  # kinds with their amounts, by turns
+SECTION_STEPS = 512  # at most, for each row of a timetable and each end of a section
 
 TURNS = 9
 SECONDS = 1  # for which a short case is run again and again, past its turns
@@ -36,6 +39,7 @@ PIPE = 4096  # bytes of the output that a program can write before they are take
 
 NAMES = ("rtime", "twin")
 
+Stretch = tuple[int, int]
 Zone = tuple[int, int, int]
 
 
@@ -65,50 +69,87 @@ def hills(length: int) -> list[Zone]:
     ]
 
 
-def line_text(length: int, limits: Sequence[Zone], gradients: Sequence[Zone]) -> str:
-    """The line file of a line of so many metres."""
-    records = [f"line,Made up,{length}"]
-    records += [f"gradient,{start},{end},{slope}" for start, end, slope in gradients]
-    records += [f"limit,{start},{end},{kmh}" for start, end, kmh in limits]
-    return "".join(f"{record}\n" for record in records)
+def halts(length: int, count: int) -> list[int]:
+    """The points of so many stops, each in the middle of one of as many equal stretches."""
+    return [(2 * number + 1) * length // (2 * count) for number in range(count)]
+
+
+def sections(length: int, count: int) -> list[Stretch]:
+    """So many sections with allowances, one behind the other over the whole line."""
+    ends = [number * length // count for number in range(count + 1)]
+    return list(zip(ends, ends[1:]))
 
 
 # Cases
 
 
 @dataclass(frozen=True)
-class Command:
-    """A command, its words, and the evaluations of the step rule that are proved to be the most."""
-
-    words: tuple[str, ...]
-    most_steps: Callable[[int], int]
-
-
-COMMANDS = {
-    command.words[0]: command
-    for command in (
-        Command(("caps", "line.csv", TRAIN_LENGTH, TRAIN_TOP), lambda length: 0),
-        Command(("rise", "line.csv", str(TRAIN), TRAIN_SPEED), lambda length: 2 * length),
-        Command(("brakes", "line.csv", str(TRAIN)), lambda length: 33 * (length + 1)),
-        Command(("envelope", "line.csv", str(TRAIN)), lambda length: 34 * length + 33),
-    )
-}
-
-
-@dataclass(frozen=True)
 class Case:
-    """A command on a line, which it has to answer with status 0."""
+    """A command on a line, and by a plan, which it has to answer with status 0."""
 
     command: str
     length: int  # m
     limits: Sequence[Zone]
     gradients: Sequence[Zone]
     about: str = ""
+    stops: Sequence[int] = ()
+    sections: Sequence[Stretch] = ()
 
     @property
     def name(self) -> str:
         metres = f"{self.length / 1000:g} km, {len(self.limits):,} limits"
         return ", ".join(filter(None, (self.command, metres, self.about)))
+
+    def line_records(self) -> Iterator[str]:
+        """The records of the line file, with a point for each stop."""
+        yield f"line,Made up,{self.length}"
+        yield from (f"gradient,{start},{end},{slope}" for start, end, slope in self.gradients)
+        yield from (f"limit,{start},{end},{kmh}" for start, end, kmh in self.limits)
+        yield from (f"point,{point},Halt {point}" for point in self.stops)
+
+    def plan_records(self) -> Iterator[str]:
+        """The records of the plan file."""
+        for turn, point in enumerate(self.stops):
+            yield f"stop,Halt {point},{DWELLS[turn % len(DWELLS)]}"
+        for turn, (start, end) in enumerate(self.sections):
+            yield f"allow,{start},{end},{ALLOWANCES[turn % len(ALLOWANCES)]}"
+
+    def files(self) -> dict[str, str]:
+        """The files that the case is asked over, beside that of the train."""
+        records = {"line.csv": self.line_records(), "plan.csv": self.plan_records()}
+        return {name: "".join(f"{record}\n" for record in each) for name, each in records.items()}
+
+
+@dataclass(frozen=True)
+class Command:
+    """The words of a command, and the counted steps that are proved to be the most of a case."""
+
+    words: tuple[str, ...]
+    most_steps: Callable[[Case], int]
+
+
+def run_steps(case: Case) -> int:
+    """The steps at most of a run."""
+    return 34 * case.length + 33
+
+
+def timetable_steps(case: Case) -> int:
+    """The steps at most of a run and of its timetable."""
+    rows = len(case.stops) + 2  # one for each end of the line too
+    return run_steps(case) + case.length + SECTION_STEPS * (rows + 2 * len(case.sections))
+
+
+PLAN = ("plan", "line.csv", str(TRAIN), "plan.csv", "--print")
+
+COMMANDS = {
+    "caps": Command(("caps", "line.csv", TRAIN_LENGTH, TRAIN_TOP), lambda case: 0),
+    "rise": Command(("rise", "line.csv", str(TRAIN), TRAIN_SPEED), lambda case: 2 * case.length),
+    "brakes": Command(("brakes", "line.csv", str(TRAIN)), lambda case: 33 * (case.length + 1)),
+    "envelope": Command(("envelope", "line.csv", str(TRAIN)), run_steps),
+    "plan --print envelope": Command((*PLAN, "envelope"), run_steps),
+    "plan --print timetable": Command((*PLAN, "timetable"), timetable_steps),
+}
+PLANNED = ("plan --print timetable", "plan --print envelope")
 
 
 def cases() -> Iterator[Case]:
@@ -122,19 +163,20 @@ def cases() -> Iterator[Case]:
         yield Case("envelope", length, spread(length, count), hills(length), "hilly")
     yield Case("envelope", LONGEST, spread(LONGEST, 200), [], "flat")
     yield Case("envelope", LONGEST, stops(LONGEST), hilly, "stopping")
+    halted, allowed = halts(LONGEST, 100), sections(LONGEST, 6)
+    for command in PLANNED:
+        limits = spread(LONGEST, 200)
+        yield Case(command, LONGEST, limits, hilly, "hilly, 100 stops", halted, allowed)
 
 
-def grown(command: str) -> dict[int, Case]:
+def grown(command: str) -> Iterator[tuple[int, Case]]:
     """A command on a line, and on ones of 10, 100 and 1000 times as many metres and records."""
-    return {
-        times: Case(
-            command,
-            GRADIENT_METRES * times,
-            spread(GRADIENT_METRES * times, times),
-            hills(GRADIENT_METRES * times),
-        )
-        for times in (1, 10, 100, 1000)
-    }
+    for times in (1, 10, 100, 1000):
+        length = GRADIENT_METRES * times
+        case = Case(command, length, spread(length, times), hills(length))
+        if command in PLANNED:
+            case = replace(case, stops=halts(length, times), sections=sections(length, times))
+        yield times, case
 
 
 # Measuring
@@ -194,9 +236,11 @@ def answer(words: Sequence[str]) -> bytes:
 def measured(case: Case, programs: Sequence[pathlib.Path], turns: int) -> list[Measured]:
     """What each of the programs takes for a case. They have to answer it with the same bytes."""
     with tempfile.TemporaryDirectory() as folder:
-        line = pathlib.Path(folder) / "line.csv"
-        line.write_text(line_text(case.length, case.limits, case.gradients))
-        given = [str(line) if word == line.name else word for word in COMMANDS[case.command].words]
+        files = case.files()
+        for name, text in files.items():
+            (pathlib.Path(folder) / name).write_text(text)
+        words = COMMANDS[case.command].words
+        given = [os.path.join(folder, word) if word in files else word for word in words]
         runs = [[str(program), *given] for program in programs]
         if len(set(map(answer, runs))) > 1:
             sys.exit(f"{case.name}: the outputs differ")
@@ -251,14 +295,14 @@ def print_growth(programs: Sequence[pathlib.Path], turns: int, only: str) -> Non
     columns = [f"{name}, {what}" for name in names for what in ("ms", "ns a metre")]
     head(["command", "times", "metres", "limits", "steps at most", *columns])
     for name, command in COMMANDS.items():
-        for times, case in grown(name).items():
+        for times, case in grown(name):
             if only not in case.name:
                 continue
             columns = []
             for each in measured(case, programs, turns):
                 a_metre = (each.seconds - each.start) / case.length
                 columns += [milliseconds(each.seconds), f"{a_metre * 1e9:.1f}"]
-            sizes = [times, case.length, len(case.limits), command.most_steps(case.length)]
+            sizes = [times, case.length, len(case.limits), command.most_steps(case)]
             row([name, *(f"{size:,}" for size in sizes), *columns])
 
 

@@ -1,9 +1,11 @@
-//! A plain program that answers `caps`, `stock`, `rise`, `brakes` and `envelope` as rtime does, for
-//! files that are accepted: what the time and the memory of the proved program are held against.
+//! A plain program that answers `caps`, `stock`, `rise`, `brakes`, `envelope` and `plan` as rtime
+//! does, for files that are accepted: what the time and the memory of the proved program are held
+//! against.
 //!
 //! It is written from docs/METHOD.md and docs/FORMATS.md, by the simplest fast means: limits and
-//! gradients as sorted stretches, one walk back, one walk on, and one buffer for the text. It
-//! proves nothing and refuses nothing: of a file that breaks a rule it says anything.
+//! gradients as sorted stretches, one walk back, one walk on, one pass for the times, and one
+//! buffer for the text. It proves nothing and refuses nothing: of a file that breaks a rule it says
+//! anything.
 //!
 //! Places are in metres, speeds in km/h, squared speeds in (0.01 km/h)², as in docs/METHOD.md.
 
@@ -11,13 +13,15 @@ mod divisor;
 mod files;
 mod stretches;
 mod text;
+mod times;
+mod timetable;
 mod train;
 mod walks;
 
 use std::env;
 use std::process::ExitCode;
 
-use files::{read_line, read_stock};
+use files::{read_line, read_plan, read_stock, Line, Plan};
 use stretches::{caps_of, pulls_of, Limit};
 use text::print;
 use train::{squared, Train};
@@ -39,6 +43,9 @@ fn main() -> ExitCode {
         ["rise", line, stock, kmh] => rise(line, stock, kmh),
         ["brakes", line, stock] => brakes(line, stock),
         ["envelope", line, stock] => envelope(line, stock),
+        ["plan", line, stock, plan, "--print", kind @ ("envelope" | "timetable")] => {
+            planned(line, stock, plan, kind)
+        }
         _ => usage(),
     };
     ExitCode::from(answer.unwrap_or_else(|trouble| {
@@ -103,19 +110,33 @@ fn rise(line: &str, stock: &str, kmh: &str) -> Answer {
 fn brakes(line: &str, stock: &str) -> Answer {
     let line = read_line(line)?;
     let train = Train::new(&read_stock(stock)?);
-    print_list(&Walks::new(&line, &train).back())
+    print_list(&Walks::new(&line, &train, &Plan::default()).back())
 }
 
 fn envelope(line: &str, stock: &str) -> Answer {
     let line = read_line(line)?;
     let train = Train::new(&read_stock(stock)?);
-    let walks = Walks::new(&line, &train);
+    run_by(&line, &train, &Plan::default(), "envelope")
+}
+
+fn planned(line: &str, stock: &str, plan: &str, kind: &str) -> Answer {
+    let line = read_line(line)?;
+    let train = Train::new(&read_stock(stock)?);
+    run_by(&line, &train, &read_plan(plan, &line)?, kind)
+}
+
+/// Prints the run by a plan in one of its two kinds, or where the train is stalled.
+fn run_by(line: &Line, train: &Train, plan: &Plan, kind: &str) -> Answer {
+    let walks = Walks::new(line, train, plan);
     let mut speeds = walks.back();
     if let Some(point) = walks.on(&mut speeds) {
         println!("stalled {point}");
         return Ok(STALLED);
     }
-    print_list(&speeds)
+    match kind {
+        "timetable" => timetable::print(plan, &speeds).map(|()| DONE),
+        _ => print_list(&speeds),
+    }
 }
 
 /// Prints a list: a line `POINT SQUARED_SPEED` for each point.

@@ -30,12 +30,12 @@ impl Limit {
         }
     }
 
-    /// A stand at a point.
-    pub fn stand(point: usize) -> Limit {
+    /// A limit at one point alone; a stand where it is 0.
+    pub fn at(point: usize, kmh: usize) -> Limit {
         Limit {
             from: point,
             last: point,
-            kmh: 0,
+            kmh,
         }
     }
 }

@@ -139,7 +139,7 @@ pub fn print<const COUNT: usize>(
     write(&buffer[..filled])
 }
 
-fn write(text: &[u8]) -> Result<(), String> {
+pub fn write(text: &[u8]) -> Result<(), String> {
     io::stdout()
         .write_all(text)
         .map_err(|fault| fault.to_string())

@@ -1,6 +1,6 @@
-//! The two walks of a train over a line, from a stand at its start to a stand at its end.
+//! The two walks of a train over a line by a plan.
 
-use crate::files::Line;
+use crate::files::{Line, Plan};
 use crate::stretches::{caps_of, pulls_of, Limit, Stretches};
 use crate::train::{squared, Train};
 
@@ -12,13 +12,16 @@ pub struct Walks<'a> {
 }
 
 impl<'a> Walks<'a> {
-    pub fn new(line: &Line, train: &'a Train) -> Walks<'a> {
+    pub fn new(line: &Line, train: &'a Train, plan: &Plan) -> Walks<'a> {
         let limits = line.limits.iter().map(|zone| Limit::of(zone, train.length));
-        let stands = [Limit::stand(0), Limit::stand(line.length)];
+        let stops = plan.calls.iter().filter(|call| call.dwell.is_some());
+        let bounds = stops
+            .map(|call| Limit::at(call.at, 0))
+            .chain([Limit::at(0, plan.enter), Limit::at(line.length, plan.leave)]);
         Walks {
             train,
             length: line.length,
-            caps: caps_of(limits.chain(stands).collect(), train.top, line.length),
+            caps: caps_of(limits.chain(bounds).collect(), train.top, line.length),
             pulls: pulls_of(line, train),
         }
     }
@@ -28,8 +31,9 @@ impl<'a> Walks<'a> {
         let mut speeds = vec![0; self.length + 1];
         let mut pull = self.pulls.len() - 1;
         let mut kmh = 0;
-        let mut speed = 0;
+        let mut speed = squared(self.caps[self.caps.len() - 2].1);
         let mut point = self.length;
+        speeds[point] = speed as u32;
         for &(from, cap) in self.caps.iter().rev().skip(1) {
             let most = squared(cap);
             // From a cap the train can brake to the same one, so before it there is no other speed.
