@@ -3,8 +3,8 @@
 
     python3 tests/compare.py [COUNT [SEED]]
 
-draws COUNT lines and trains from SEED, the same ones at each run, asks the program for `stock`, `caps`,
-`rise`, `brakes` and `envelope` over each, and compares whole outputs and exit statuses with what the
+draws COUNT lines, trains and plans from SEED, the same ones at each run, asks the program for `stock`, `caps`,
+`rise`, `brakes`, `envelope` and `plan` over each, and compares whole outputs and exit statuses with what the
 model says. It compares as well how `stock` refuses trains that break a law of their tables, and all
 commands over the lines and trains of examples/. At the end it prints how many of the trains drawn ran the whole line and
 how many were stalled. tests/run.py makes the same comparisons with the COUNT and SEED below.
@@ -25,7 +25,22 @@ from random import Random
 
 sys.dont_write_bytecode = True  # the sources have no folder of compiled ones beside them
 
-from model import Drive, Line, Row, Train, Zone, between, caps_of, squared
+from model import (
+    Call,
+    Drive,
+    Line,
+    Plan,
+    Row,
+    Section,
+    Timetable,
+    Train,
+    Zone,
+    between,
+    bounds_of,
+    caps_of,
+    squared,
+    true_time,
+)
 
 TOP = pathlib.Path(__file__).resolve().parent.parent
 PROGRAM = TOP / "crates" / "rtime" / "out" / "rtime"
@@ -162,6 +177,32 @@ def drawn_line(random: Random, train: Train) -> Line:
     return Line(length, gradients, tuple(limits))
 
 
+MOST = {"percent": 1000, "per100km": 3600, "fixed": 86400}  # tenths of a percent, s, s
+
+
+def drawn_sections(random: Random, length: int) -> tuple[Section, ...]:
+    """Up to four allowances, with or without gaps between them."""
+    stretches = drawn_stretches(random, length)
+    kinds = random.choices(list(MOST), k=len(stretches))
+    return tuple(
+        Section(start, end, kind, random.choice([0, 1, MOST[kind], random.randint(0, MOST[kind])]))
+        for (start, end), kind in zip(stretches, kinds)
+    )
+
+
+def drawn_plan(random: Random, line: Line, train: Train) -> Plan:
+    """A plan of up to four calls, at the ends too, of a train that may come and go at a speed."""
+    points = sorted(random.sample(range(line.length + 1), min(random.randint(0, 4), line.length + 1)))
+    ends = [random.choice([0, 0, random.randint(0, min(train.top + 3, 500))]) for _ in range(2)]
+    return Plan(
+        depart=random.choice([0, random.randint(0, 86400)]),
+        enter=ends[0],
+        leave=ends[1],
+        calls=tuple(Call(at, random.choice([None, 0, random.randint(0, 600)])) for at in points),
+        sections=drawn_sections(random, line.length),
+    )
+
+
 # Reading
 
 
@@ -197,14 +238,38 @@ KINDS = [
     "whole with a stand at a point on the way",
     "whole over a hill that slows more than the brakes",
 ]
+KINDS += [f"{kind}, by a plan" for kind in KINDS]
 
 
-def line_text(line: Line) -> str:
-    """The line file of a line."""
+def records_text(records: Iterable[str]) -> str:
+    """The text of records."""
+    return "".join(f"{record}\n" for record in records)
+
+
+def line_text(line: Line, plan: Plan) -> str:
+    """The line file of a line, with a point for each call of a plan."""
     records = [f"line,Drawn,{line.length}"]
     records += [f"gradient,{start},{end},{slope}" for start, end, slope in line.gradients]
     records += [f"limit,{start},{end},{kmh}" for start, end, kmh in line.limits]
-    return "".join(f"{record}\n" for record in records)
+    records += [f"point,{call.at},{name_of(call)}" for call in plan.calls]
+    return records_text(records)
+
+
+def name_of(call: Call) -> str:
+    """The name of the point of a call."""
+    return f"At {call.at}"
+
+
+def plan_text(plan: Plan) -> str:
+    """The plan file of a plan."""
+    keys = ("depart", "enter", "leave")
+    records = [f"{key},{getattr(plan, key)}" for key in keys if getattr(plan, key)]
+    for call in plan.calls:
+        kind, dwell = ("pass", "") if call.dwell is None else ("stop", f",{call.dwell}")
+        records.append(f"{kind},{name_of(call)}{dwell}")
+    for section in plan.sections:
+        records.append(f"allow,{section.start},{section.end},{section.kind},{section.amount}")
+    return records_text(records)
 
 
 def stock_text(train: Train) -> str:
@@ -232,27 +297,11 @@ def stock_answer(train: Train) -> Answer:
 
 
 @dataclass(frozen=True)
-class Journey:
-    """A train on a line, and a speed for `rise`."""
+class Ride:
+    """A drive under caps."""
 
-    line: Line
-    train: Train
-    kmh: int  # km/h
-
-    @cached_property
-    def drive(self) -> Drive:
-        return Drive(self.line, self.train)
-
-    @cached_property
-    def limits(self) -> list[int]:
-        """The caps of the line's limits alone."""
-        return caps_of(self.line, self.train.length, self.train.top)
-
-    @cached_property
-    def caps(self) -> list[int]:
-        """The caps of a train that stands at both ends."""
-        ends = [0, self.line.length]
-        return caps_of(self.line, self.train.length, self.train.top, ends)
+    drive: Drive
+    caps: list[int]
 
     @cached_property
     def run(self) -> list[int] | None:
@@ -262,34 +311,16 @@ class Journey:
     def stall(self) -> int | None:
         return self.drive.stall(self.caps)
 
-    def rise_text(self) -> str:
-        """The text of `rise`: a line `CELL PULL UP LOW` for each cell."""
-        drive, u = self.drive, squared(min(self.kmh, self.train.top))
-        return "".join(
-            f"{cell} {pull} {drive.up(cell, u)} {drive.low(cell, u)}\n"
-            for cell, pull in enumerate(drive.pulls)
-        )
-
-    def envelope_answer(self) -> Answer:
-        """What `envelope` answers."""
+    def answer(self) -> Answer:
+        """What a command answers that prints the run."""
         if self.run is None:
             return 6, f"stalled {self.stall}\n"
         return 0, numbers_text(self.run)
 
-    def answers(self) -> Iterator[tuple[list[str], Answer]]:
-        """The words that are asked, each with the status and the output that the model gives."""
-        length, top = str(self.train.length), str(self.train.top)
-        brakes = self.drive.brakes(self.caps)
-        yield ["stock", "train.toml"], stock_answer(self.train)
-        yield ["caps", "line.csv", length, top], (0, numbers_text(self.limits))
-        yield ["rise", "line.csv", "train.toml", str(self.kmh)], (0, self.rise_text())
-        yield ["brakes", "line.csv", "train.toml"], (0, numbers_text(brakes))
-        yield ["envelope", "line.csv", "train.toml"], self.envelope_answer()
-
     def kinds(self) -> Iterator[str]:
         """The kinds of case that this is one of."""
         if self.run is None:
-            ends = {1: "stalled at 1", self.line.length: "stalled at the last point"}
+            ends = {1: "stalled at 1", self.drive.length: "stalled at the last point"}
             yield "stalled"
             yield ends.get(self.stall, "stalled on the way")
             before = self.drive.keeps(self.caps, self.stall - 1)[self.stall - 1]
@@ -304,11 +335,89 @@ class Journey:
 
     def is_steep(self, cell: int, u: int) -> bool:
         """Whether the hill at a cell slows the train more than its brakes do."""
-        return self.drive.up(cell, u) < u - between(self.train.brakings, u)
+        return self.drive.up(cell, u) < u - between(self.drive.train.brakings, u)
+
+
+@dataclass(frozen=True)
+class Journey:
+    """A train on a line, a speed for `rise`, and a plan."""
+
+    line: Line
+    train: Train
+    kmh: int  # km/h
+    plan: Plan
+
+    @cached_property
+    def drive(self) -> Drive:
+        return Drive(self.line, self.train)
+
+    @cached_property
+    def limits(self) -> list[int]:
+        """The caps of the line's limits alone."""
+        return caps_of(self.line, self.train.length, self.train.top)
+
+    def ride(self, plan: Plan) -> Ride:
+        """The drive by a plan."""
+        bounds = bounds_of(plan, self.line.length)
+        return Ride(self.drive, caps_of(self.line, self.train.length, self.train.top, bounds))
+
+    @cached_property
+    def free(self) -> Ride:
+        """The drive of a train that stands at both ends and calls nowhere."""
+        return self.ride(Plan())
+
+    @cached_property
+    def planned(self) -> Ride:
+        return self.ride(self.plan)
+
+    def rise_text(self) -> str:
+        """The text of `rise`: a line `CELL PULL UP LOW` for each cell."""
+        drive, u = self.drive, squared(min(self.kmh, self.train.top))
+        return "".join(
+            f"{cell} {pull} {drive.up(cell, u)} {drive.low(cell, u)}\n"
+            for cell, pull in enumerate(drive.pulls)
+        )
+
+    def answers(self) -> Iterator[tuple[list[str], Answer]]:
+        """The words that are asked, each with the status and the output that the model gives."""
+        length, top = str(self.train.length), str(self.train.top)
+        brakes = self.drive.brakes(self.free.caps)
+        plan = ["plan", "line.csv", "train.toml", "plan.csv", "--print"]
+        yield ["stock", "train.toml"], stock_answer(self.train)
+        yield ["caps", "line.csv", length, top], (0, numbers_text(self.limits))
+        yield ["rise", "line.csv", "train.toml", str(self.kmh)], (0, self.rise_text())
+        yield ["brakes", "line.csv", "train.toml"], (0, numbers_text(brakes))
+        yield ["envelope", "line.csv", "train.toml"], self.free.answer()
+        yield [*plan, "envelope"], self.planned.answer()
+        yield [*plan, "timetable"], self.timetable_answer()
+
+    def timetable_answer(self) -> Answer:
+        """What `plan` answers where it prints the timetable."""
+        run = self.planned.run
+        if run is None:
+            return self.planned.answer()
+        return 0, records_text(Timetable(run, self.plan).rows(name_of))
+
+    def encloses(self) -> bool:
+        """Whether the true time of the planned run, if there is one, lies in the sum of its brackets."""
+        run = self.planned.run
+        if run is None:
+            return True
+        times = Timetable(run, self.plan)
+        return times.lo[-1] <= true_time(run) <= times.hi[-1]
+
+    def kinds(self) -> Iterator[str]:
+        """The kinds of case that this is one of."""
+        yield from self.free.kinds()
+        yield from (f"{kind}, by a plan" for kind in self.planned.kinds())
 
     def files(self) -> dict[str, str]:
-        """The files that say the line and the train."""
-        return {"line.csv": line_text(self.line), "train.toml": stock_text(self.train)}
+        """The files that say the line, the train and the plan."""
+        return {
+            "line.csv": line_text(self.line, self.plan),
+            "train.toml": stock_text(self.train),
+            "plan.csv": plan_text(self.plan),
+        }
 
 
 # Comparing
@@ -356,8 +465,8 @@ def examples() -> Iterator[Result]:
     """Compares what is said of the example trains on their lines."""
     for train in sorted(EXAMPLES.glob("*/*.toml")):
         line = train.parent / "line.csv"
-        files = {"line.csv": line.read_text(), "train.toml": train.read_text()}
-        journey = Journey(read_line(files["line.csv"]), read_train(files["train.toml"]), 60)
+        files = {"line.csv": line.read_text(), "train.toml": train.read_text(), "plan.csv": ""}
+        journey = Journey(read_line(files["line.csv"]), read_train(files["train.toml"]), 60, Plan())
         yield compared(f"{train.stem} on {line.parent.name}", files, journey.answers())
 
 
@@ -381,9 +490,11 @@ def comparisons(
     for number in range(1, count + 1):
         train = lawful_train(random)
         kmh = random.randint(0, min(train.top + 3, 500))
-        drawn = Journey(drawn_line(random, train), train, kmh)
+        line = drawn_line(random, train)
+        drawn = Journey(line, train, kmh, drawn_plan(random, line, train))
         kinds.update(drawn.kinds())
         yield compared(f"drawn {number}", drawn.files(), drawn.answers())
+        yield f"the true time of drawn {number}", drawn.encloses(), f"  {drawn.files()}\n"
     yield from refusals(random, count // 5)
     yield from examples()
     if count >= COUNT:

@@ -9,10 +9,11 @@ masses in kg, braking rates in mm/s², gradients in tenths of a per mille. Push 
 """
 
 from bisect import bisect_left, bisect_right
-from collections.abc import Iterable, Sequence
+from collections.abc import Callable, Iterable, Sequence
 from dataclasses import dataclass
+from decimal import Decimal, localcontext
 from functools import cached_property
-from itertools import pairwise
+from itertools import accumulate, pairwise
 from math import isqrt
 
 Row = tuple[int, int]
@@ -122,10 +123,45 @@ def pulls_of(line: Line, train: Train) -> list[int]:
     ]
 
 
-def caps_of(line: Line, length: int, top: int, stands: Iterable[int] = ()) -> list[int]:
+@dataclass(frozen=True)
+class Call:
+    """A stop or a pass of a plan."""
+
+    at: int  # m
+    dwell: int | None  # s; None where the train passes
+
+
+@dataclass(frozen=True)
+class Section:
+    """A stretch of the line with an allowance."""
+
+    start: int  # m
+    end: int  # m
+    kind: str  # percent, per100km or fixed
+    amount: int  # tenths of a percent, s for each 100 km, or s
+
+
+@dataclass(frozen=True)
+class Plan:
+    """A plan, as the records of a plan file say it: what no record says is 0."""
+
+    depart: int = 0  # s
+    enter: int = 0  # km/h
+    leave: int = 0  # km/h
+    calls: tuple[Call, ...] = ()
+    sections: tuple[Section, ...] = ()
+
+
+def bounds_of(plan: Plan, length: int) -> list[Row]:
+    """The points of a line of so many m with the greatest `u` that a plan allows there."""
+    stands = [(call.at, 0) for call in plan.calls if call.dwell is not None]
+    return [(0, squared(plan.enter)), (length, squared(plan.leave)), *stands]
+
+
+def caps_of(line: Line, length: int, top: int, bounds: Iterable[Row] = ()) -> list[int]:
     """The greatest `u` allowed at each point, for a train of so many m and so many km/h.
 
-    A limit binds until the train's tail has left it. The train stands at the points `stands`.
+    A limit binds until the train's tail has left it, and a bound at its point alone.
     """
 
     def kmh_at(point: int) -> int:
@@ -134,8 +170,8 @@ def caps_of(line: Line, length: int, top: int, stands: Iterable[int] = ()) -> li
         )
 
     caps = [squared(kmh_at(point)) for point in range(line.length + 1)]
-    for point in stands:
-        caps[point] = 0
+    for point, most in bounds:
+        caps[point] = min(caps[point], most)
     return caps
 
 
@@ -209,3 +245,93 @@ class Drive:
         points = range(1, self.length + 1)
         place = bisect_left(points, True, key=lambda k: self.keeps(brakes, k) is None)
         return points[place] if place < len(points) else None
+
+
+# Times
+
+
+SECOND = 10**9  # ns
+MILLISECOND = 10**6  # ns
+
+
+def speed_below(u: int) -> int:
+    """The speed of a squared speed in 0.00001 km/h, rounded down."""
+    return isqrt(10**6 * u)
+
+
+def speed_above(u: int) -> int:
+    """The same, rounded up."""
+    below = speed_below(u)
+    return below if below**2 == 10**6 * u else below + 1
+
+
+def shortest(a: int, b: int) -> int:
+    """The time of a metre from `a` to `b` in ns: from the speeds rounded up, rounded down."""
+    return 720 * 10**12 // (speed_above(a) + speed_above(b))
+
+
+def longest(a: int, b: int) -> int:
+    """The same, from the speeds rounded down, rounded up."""
+    return ceil_div(720 * 10**12, speed_below(a) + speed_below(b))
+
+
+def true_time(run: Sequence[int]) -> Decimal:
+    """The time of a run in ns, to 60 digits: a metre takes two metres over the sum of its speeds."""
+    with localcontext() as context:
+        context.prec = 60
+        speeds = [Decimal(u).sqrt() for u in run]
+        return sum((Decimal(720 * 10**9) / (a + b) for a, b in pairwise(speeds)), Decimal(0))
+
+
+class Timetable:
+    """The times of a run by a plan."""
+
+    def __init__(self, run: Sequence[int], plan: Plan) -> None:
+        self.plan = plan
+        self.length = len(run) - 1
+        self.lo = [0, *accumulate(shortest(a, b) for a, b in pairwise(run))]
+        self.hi = [0, *accumulate(longest(a, b) for a, b in pairwise(run))]
+
+    def arrival(self, point: int) -> Row:
+        """When the train comes to a point, in ns: at the earliest, and at the latest."""
+        dwells = sum(call.dwell or 0 for call in self.plan.calls if call.at < point)
+        before = SECOND * (self.plan.depart + dwells)
+        return before + self.lo[point], before + self.hi[point]
+
+    def amount(self, section: Section) -> int:
+        """What a section adds in all, in ms."""
+        metres = section.end - section.start
+        time = self.hi[section.end] - self.hi[section.start]
+        return {
+            "percent": ceil_div(time * section.amount, 10**9),
+            "per100km": ceil_div(metres * section.amount, 100),
+            "fixed": section.amount * 1000,
+        }[section.kind]
+
+    def added(self, point: int) -> int:
+        """What all sections add at a point, in ms."""
+        return sum(self.added_by(section, point) for section in self.plan.sections)
+
+    def added_by(self, section: Section, point: int) -> int:
+        if point <= section.start:
+            return 0
+        if point >= section.end:
+            return self.amount(section)
+        so_far = self.hi[point] - self.hi[section.start]
+        return self.amount(section) * so_far // (self.hi[section.end] - self.hi[section.start])
+
+    def row(self, point: int, kind: str, dwell: int, name: str) -> str:
+        """A row: place, kind, arrival and departure at both ends, what is added, what is planned."""
+        arrive = self.arrival(point)
+        leave = [time + SECOND * dwell for time in arrive]
+        added = self.added(point)
+        planned = ceil_div(arrive[1], MILLISECOND) + added
+        return " ".join(map(str, [point, kind, *arrive, *leave, added, planned, name]))
+
+    def rows(self, names: Callable[[Call], str]) -> list[str]:
+        """The rows: the departure, the calls, and the arrival at the end of the line."""
+        calls = [
+            self.row(call.at, "pass" if call.dwell is None else "stop", call.dwell or 0, names(call))
+            for call in self.plan.calls
+        ]
+        return [self.row(0, "start", 0, "-"), *calls, self.row(self.length, "end", 0, "-")]

@@ -15,6 +15,8 @@ Each file of tests/cases/ is TOML and has tables `[[case]]` with
     files   the files that lie where the program runs, by name: a text; `{ hex = ".." }`, its bytes;
             `{ size = N }`, N bytes of 0; `{ text = "..", size = N }`, a text and then line ends, to N
             bytes; `{ parts = [..] }`, texts and `{ text = "..", times = N }` one after the other;
+            `{ text = "..", count = N }`, the text N times, each with its number from 0 on in place of `%i`,
+            and the number behind that in place of `%n`;
             `{ fifo = ".." }`, a FIFO into which the text is written once it is read; or
             `{ path = ".." }`, the bytes of a file of the repository
     beside  those of the files that no word names; each other one has to be named by a word
@@ -77,7 +79,7 @@ TABLES = {"case", "table", "words"}
 WAYS = ({"output"}, {"spans"}, {"begins"}, {"has"}, {"begins", "has"})
 CONTENTS = (
     *({"parts"}, {"hex"}, {"path"}, {"fifo"}),
-    *({"text", "times"}, {"text", "size"}, {"size"}),
+    *({"text", "times"}, {"text", "count"}, {"text", "size"}, {"size"}),
 )
 OF_POINTS = {"caps", "brakes", "envelope"}
 
@@ -91,6 +93,11 @@ def is_fifo(given):
     return not isinstance(given, str) and "fifo" in given
 
 
+def numbered(text, number):
+    """A text with a number in place of `%i`, and the next in place of `%n`."""
+    return text.replace("%i", str(number)).replace("%n", str(number + 1))
+
+
 def content_of(given):
     """The bytes of a file of a case."""
     if isinstance(given, str):
@@ -101,6 +108,8 @@ def content_of(given):
         return b"".join(map(content_of, given["parts"]))
     if "times" in given:
         return given["text"].encode() * given["times"]
+    if "count" in given:
+        return "".join(numbered(given["text"], number) for number in range(given["count"])).encode()
     if "hex" in given:
         return bytes.fromhex(given["hex"])
     if "path" in given:
