@@ -96,7 +96,6 @@ impl Line {
 
     pub fn name(&self) -> &Name
         ensures name { result.now ≡ self.now.name }
-        ensures kept { IsLine self.now }
     {
         &self.name
     }
@@ -105,7 +104,6 @@ impl Line {
     /// the line is level.
     pub fn slopes(&self) -> &[Slope]
         ensures slopes { result.now ≡ self.now.slopes }
-        ensures kept { IsLine self.now }
     {
         self.slopes.as_slice()
     }
@@ -113,7 +111,6 @@ impl Line {
     /// The speed limits, in the order of the file.
     pub fn limits(&self) -> &[Zone]
         ensures limits { result.now ≡ self.now.limits }
-        ensures kept { IsLine self.now }
     {
         self.limits.as_slice()
     }
@@ -124,7 +121,6 @@ impl Line {
         ensures there { IfSome result (λ at. Contains self.now.points (name.now, at)) }
         ensures none { IfNone result (All (λ p. p.0 ≢ name.now) self.now.points) }
         ensures lies { IfSome result (λ at. at ≤ self.now.length) }
-        ensures kept { IsLine self.now }
     {
         self.points.find(name)
     }

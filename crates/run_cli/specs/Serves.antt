@@ -3,6 +3,7 @@ use Rattle.std.specs.Prelude.{ℕ, ◌≡◌, ◌≤◌, ◌+◌, ◌⊎◌, Lis
 use Rattle.run_io.specs.Fetches.{Files}
 use Rattle.run_io.specs.Told.{Rose, Told, Writes, WritesFront}
 use Rattle.run_cli.specs.Ends.{EndsAs, EndsShort, EndsWhole, HasCause, IsComplete, Outside, TakesInput, TakesSteps}
+use Rattle.run_cli.specs.Loads.{AsksOnce}
 use Rattle.run_cli.specs.Meanings.{Meaning}
 use Rattle.run_cli.specs.Statuses.{extent_of, status_text}
 use Rattle.run_cli.specs.Statuses.Extent.{whole}
@@ -16,6 +17,11 @@ pub record Serves (m : Meaning) (old new : Outside) (before now : ℕ) (s : Stat
   pub complete : IsComplete m old new s
   pub takes : TakesInput m old new s
   pub steps : TakesSteps m old new before now
+
+-- and of what the shelf was asked
+pub record IsServed (m : Meaning) (old new : Outside) (before now asked after : ℕ) (s : Status) : Type 0 where
+  pub serves : Serves m old new before now s
+  pub asks : AsksOnce (m.reads old.shelf.holds) asked after
 
 -- a status and a text are among those that a form means which reads files alone
 pub record IsMeant (m : Meaning) (told : Option Files) (s : Status) (t : List ℕ) : Type 0 where

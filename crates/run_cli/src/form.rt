@@ -7,7 +7,7 @@ ghost use Rattle.run_cli.specs.Ends.{outside};
 ghost use Rattle.run_cli.specs.Forms.{meaning_of};
 ghost use Rattle.run_cli.specs.Loads.{AsksOnce, Loads};
 ghost use Rattle.run_cli.specs.Meanings.{IsFileForm};
-ghost use Rattle.run_cli.specs.Serves.{Finishes, IsMeant, Serves, Works};
+ghost use Rattle.run_cli.specs.Serves.{Finishes, IsMeant, IsServed, Works};
 ghost use Rattle.run_cli.specs.declared.status.Status.{Status as Ending};
 ghost use Rattle.run_words.specs.Requests.{Request};
 
@@ -105,13 +105,10 @@ pub(crate) fn serve<F: Form, S: Shelf, I: Source, K: Sink, L: Ledger>(
     out: &mut K,
     steps: &mut Steps<L>,
 ) -> Status
-    ensures serves { Serves (meaning_of (Some (F.request form.now)))
+    ensures { IsServed (meaning_of (Some (F.request form.now)))
         (outside (S.told shelf.old) (I.told _input.old) (K.told out.old))
         (outside (S.told shelf.new) (I.told _input.new) (K.told out.new))
-        steps.old steps.new result }
-    ensures asks { AsksOnce
-        ((meaning_of (Some (F.request form.now))).reads (S.told shelf.old).holds)
-        (S.asked shelf.old) (S.asked shelf.new) }
+        steps.old steps.new (S.asked shelf.old) (S.asked shelf.new) result }
 {
     match form.load(alloc, shelf) {
         Ok(tables) => work(alloc, form, tables, out, steps),

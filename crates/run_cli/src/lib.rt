@@ -6,7 +6,7 @@ ghost use Rattle.std.specs.Prelude.{◌≡◌, Some, map, string_bytes};
 ghost use Rattle.run_cli.specs.Ends.{EndsAs, HasCause, IsComplete, TakesInput, TakesSteps, outside};
 ghost use Rattle.run_cli.specs.Forms.{WordsAnswerOnce, meaning_of, meant_by};
 ghost use Rattle.run_cli.specs.Loads.{AsksOnce};
-ghost use Rattle.run_cli.specs.Serves.{Serves};
+ghost use Rattle.run_cli.specs.Serves.{IsServed};
 ghost use Rattle.run_words.specs.Requests.{view};
 
 mod brakes;
@@ -80,12 +80,10 @@ fn serve_words<S: Shelf, I: Source, K: Sink, L: Ledger>(
     out: &mut K,
     steps: &mut Steps<L>,
 ) -> Status
-    ensures serves { Serves (meant_by (map string_bytes words.now))
+    ensures { IsServed (meant_by (map string_bytes words.now))
         (outside (S.told shelf.old) (I.told input.old) (K.told out.old))
         (outside (S.told shelf.new) (I.told input.new) (K.told out.new))
-        steps.old steps.new result }
-    ensures asks { AsksOnce ((meant_by (map string_bytes words.now)).reads (S.told shelf.old).holds)
-        (S.asked shelf.old) (S.asked shelf.new) }
+        steps.old steps.new (S.asked shelf.old) (S.asked shelf.new) result }
 {
     match read_request(alloc, words) {
         Ok(None) => refuse(Status::Usage, out),
@@ -103,13 +101,10 @@ fn serve_request<S: Shelf, I: Source, K: Sink, L: Ledger>(
     out: &mut K,
     steps: &mut Steps<L>,
 ) -> Status
-    ensures serves { Serves (meaning_of (Some (view request.entry)))
+    ensures { IsServed (meaning_of (Some (view request.entry)))
         (outside (S.told shelf.old) (I.told input.old) (K.told out.old))
         (outside (S.told shelf.new) (I.told input.new) (K.told out.new))
-        steps.old steps.new result }
-    ensures asks { AsksOnce
-        ((meaning_of (Some (view request.entry))).reads (S.told shelf.old).holds)
-        (S.asked shelf.old) (S.asked shelf.new) }
+        steps.old steps.new (S.asked shelf.old) (S.asked shelf.new) result }
 {
     match request {
         Request::Caps(form) => serve(alloc, &form, shelf, input, out, steps),
