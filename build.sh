@@ -86,7 +86,7 @@ if command -v flock >/dev/null && ! flock -n "$lock"; then
     exec {lock}>&-
     exec "$top/rtime" "$@" # which looks again
 fi
-say "proving and building the program, once: this takes some twenty minutes"
+say "proving and building the program, once: this takes up to half an hour"
 prove
 exec {lock}>&-
 exec "$program" "$@"

@@ -39,7 +39,7 @@ from model import (
     bounds_of,
     caps_of,
     squared,
-    true_time,
+    true_times,
 )
 
 TOP = pathlib.Path(__file__).resolve().parent.parent
@@ -399,12 +399,14 @@ class Journey:
         return 0, records_text(Timetable(run, self.plan).rows(name_of))
 
     def encloses(self) -> bool:
-        """Whether the true time of the planned run, if there is one, lies in the sum of its brackets."""
+        """Whether the true time of the planned run to each point, if there is a run, lies in its bracket."""
         run = self.planned.run
         if run is None:
             return True
         times = Timetable(run, self.plan)
-        return times.lo[-1] <= true_time(run) <= times.hi[-1]
+        return all(
+            lo <= time <= hi for lo, time, hi in zip(times.lo, true_times(run), times.hi, strict=True)
+        )
 
     def kinds(self) -> Iterator[str]:
         """The kinds of case that this is one of."""
@@ -494,7 +496,7 @@ def comparisons(
         drawn = Journey(line, train, kmh, drawn_plan(random, line, train))
         kinds.update(drawn.kinds())
         yield compared(f"drawn {number}", drawn.files(), drawn.answers())
-        yield f"the true time of drawn {number}", drawn.encloses(), f"  {drawn.files()}\n"
+        yield f"the true times of drawn {number}", drawn.encloses(), f"  {drawn.files()}\n"
     yield from refusals(random, count // 5)
     yield from examples()
     if count >= COUNT:

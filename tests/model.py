@@ -275,12 +275,16 @@ def longest(a: int, b: int) -> int:
     return ceil_div(720 * 10**12, speed_below(a) + speed_below(b))
 
 
-def true_time(run: Sequence[int]) -> Decimal:
-    """The time of a run in ns, to 60 digits: a metre takes two metres over the sum of its speeds."""
+def true_times(run: Sequence[int]) -> list[Decimal]:
+    """The time of a run from point 0 to each point, in ns to 60 digits, without dwells.
+
+    A metre takes two metres over the sum of the speeds at its ends.
+    """
     with localcontext() as context:
         context.prec = 60
         speeds = [Decimal(u).sqrt() for u in run]
-        return sum((Decimal(720 * 10**9) / (a + b) for a, b in pairwise(speeds)), Decimal(0))
+        cells = (Decimal(720 * 10**9) / (a + b) for a, b in pairwise(speeds))
+        return list(accumulate(cells, initial=Decimal(0)))
 
 
 class Timetable:

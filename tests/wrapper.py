@@ -48,7 +48,7 @@ HALF = RT + 'head -c 9999 "$PROGRAM" >out/rtime; chmod +x out/rtime\n' + WAIT + 
 LATE = RT + 'setsid bash -c "sleep 0.5; cp $PROGRAM out/rtime" &\n' + WAIT + "exit 1\n"
 REFUSES = RT + "echo 'fn rtime::main: REFUSED'; exit 1\n"
 STEPS = [
-    "rtime: proving and building the program, once: this takes some twenty minutes",
+    "rtime: proving and building the program, once: this takes up to half an hour",
     "rtime: crate 1 of 2: unit_rules is proved",
     "rtime: crate 2 of 2: rtime is proved",
 ]

@@ -1,9 +1,5 @@
 //! The records of a record file, such as a line file, as `csv` gives them; what their fields say; and
-//! the first of them that breaks a rule.
-//!
-//! A reader of one kind of record file is a [`RecordReader`]: it says which rule a record breaks
-//! after the records before it, and takes one after another. [`read_records`] does the rest for each
-//! kind.
+//! the first of them that breaks a rule. [`read_records`] reads any kind, by its [`RecordReader`].
 #![tactic(auto)]
 
 ghost use Rattle.std.specs.Prelude.{◌≡◌, ◌++◌, ◌∷◌, [], List, ℕ, Option};
