@@ -2,7 +2,7 @@
 use Rattle.std.proofs.Common.{◌≡◌, ◌≤◌, ◌<◌, ◌+◌, ◌-◌, ◌⊎◌, inl, inr, ℕ, suc, zero, List, [], ◌∷◌, ◌++◌, true, false, length, get_or, arith, refl, sym, ap, ◌∙◌}
 use Rattle.std.proofs.lemmas.Bool.{cases_Bool, true≢false, cases_eq, eq-eqb, ne_eqb}
 use Rattle.std.proofs.lemmas.List.{append-nil}
-use Rattle.limit_profile.specs.Breaks.{begins, breaks_below}
+use Rattle.limit_profile.specs.Breaks.{AreBegun, begins, breaks_below}
 use Rattle.limit_profile.specs.declared.breaks.Break.{Break}
 use Rattle.limit_profile.specs.declared.pieces.Piece.{Piece}
 use Rattle.limit_profile.specs.Pieces.{IsPiece}
@@ -153,11 +153,8 @@ breaks_below-whole f zero l = absurd (omega arith)
 breaks_below-whole f (suc last) l = breaks_below-broken f last
 
 -- breaks below a point are some, the first is at 0, and each holds up to the next
-pub breaks_below-some : (f : ℕ → ℕ) (end : ℕ) (breaks : List Break) → 0 < end → breaks ≡ breaks_below f end → 0 < length breaks
-breaks_below-some f end breaks l e = let broken = breaks_below-whole f end l in rw (e ∙ broken.breaks) (omega arith)
-
-pub breaks_below-first : (f : ℕ → ℕ) (end : ℕ) (breaks : List Break) (d : Break) → 0 < end → breaks ≡ breaks_below f end → (get_or breaks 0 d).at ≡ 0
-breaks_below-first f end breaks d l e = let broken = breaks_below-whole f end l in rw (e ∙ broken.breaks) refl
+pub breaks_below-starts : (f : ℕ → ℕ) (end : ℕ) (breaks : List Break) → 0 < end → breaks ≡ breaks_below f end → AreBegun breaks
+breaks_below-starts f end breaks l e = let broken = breaks_below-whole f end l in rw (e ∙ broken.breaks) (record { some = omega arith; first = λ d. refl })
 
 pub breaks_below-at : (f : ℕ → ℕ) (end : ℕ) (breaks : List Break) (k i : ℕ) (d : Break) → 0 < end → breaks ≡ breaks_below f end → k < length breaks → (get_or breaks k d).at ≤ i
     → (k + 1 < length breaks → i < (get_or breaks (k + 1) d).at) → (length breaks ≤ k + 1 → i < end) → f i ≡ (get_or breaks k d).most

@@ -38,7 +38,7 @@ count-meet f g h (suc point) is =
     omega (arith, count-meet f g h point is, one, count-suc f (suc point), count-suc g (suc point), count-suc h (suc point))
 
 -- no fewer stand below a later point
-count-more : (f : ℕ → ℕ) (point k : ℕ) → count f point ≤ count f (point + k)
+pub count-more : (f : ℕ → ℕ) (point k : ℕ) → count f point ≤ count f (point + k)
 count-more f point zero = let e : point + 0 ≡ point = omega arith in rw e (omega arith)
 count-more f point (suc k) = let e : point + suc k ≡ suc (point + k) = omega arith in rw e (omega (arith, count-more f point k, count-suc f (point + k)))
 
@@ -56,16 +56,20 @@ count-piece f from most until l same = elim (cases_eq from until) [
   | inr n ↦ count-stretch f from most until (omega arith) same
 ]
 
--- one zone makes three at most: at 0, where it begins to bind, and where it has ended
-binds-before : (line train i : ℕ) (z : Zone) → i < z.from → binds_at line train i z ≡ false
+-- a zone binds from its start up to where the tail has left it, or the line ends
+pub binds-before : (line train i : ℕ) (z : Zone) → i < z.from → binds_at line train i z ≡ false
 binds-before line train i z h = rw (lt-leb z.from i h) refl
 
 binds-within : (line train i : ℕ) (z : Zone) → z.from ≤ i → i ≤ min line (z.to + train) → binds_at line train i z ≡ true
 binds-within line train i z h l = rw (le-leb z.from i h, le-leb i (min line (z.to + train)) l) refl
 
-binds-past : (line train i : ℕ) (z : Zone) → z.from ≤ i → min line (z.to + train) < i → binds_at line train i z ≡ false
+pub binds-past : (line train i : ℕ) (z : Zone) → z.from ≤ i → min line (z.to + train) < i → binds_at line train i z ≡ false
 binds-past line train i z h l = rw (le-leb z.from i h, lt-leb i (min line (z.to + train)) l) refl
 
+pub binds-there : (line train i : ℕ) (z : Zone) → binds_at line train i z ≡ true → (z.from ≤ i) × (i ≤ min line (z.to + train))
+binds-there line train i z h = grind arith
+
+-- one zone makes three at most: at 0, where it begins to bind, and where it has ended
 count-one : (line train top point : ℕ) (z : Zone) → LiesOn line z → count (zoned_at line train top (z ∷ [])) point ≤ 3
 count-one line train top point z lies =
     let f = zoned_at line train top (z ∷ []) in

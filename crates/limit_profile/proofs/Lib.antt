@@ -5,3 +5,4 @@ pub mod PieceFacts
 pub mod BreakFacts
 pub mod ZoneFacts
 pub mod CountFacts
+pub mod StretchFacts

@@ -27,10 +27,16 @@ breaks_of p = breaks_below (zoned_at p.length p.train p.top p.zones) (p.length +
 abbrev pub Neighbours : (Break → Break → Type 0) → List Break → Type 0
 Neighbours Told breaks = (k : ℕ) (d : Break) → k + 1 < length breaks → Told (slice_index_or breaks k d) (slice_index_or breaks (k + 1) d)
 
--- limits as they are kept: a profile and the breaks of its zones, with room for more of both
-pub record IsKept (p : Profile) (breaks : List Break) (zone_room break_room other_room : ℕ) : Type 0 where
+-- some breaks, the first of which stands at the line's start
+pub record AreBegun (breaks : List Break) : Type 0 where
+  pub some : 0 < length breaks
+  pub first : (d : Break) → (slice_index_or breaks 0 d).at ≡ 0
+
+-- limits as they are kept: a profile and the breaks of its zones, with room for more of both, and to list either
+pub record IsKept (p : Profile) (breaks : List Break) (zone_room break_room other_room near_room : ℕ) : Type 0 where
   pub profile : IsProfile p
   pub listed : breaks ≡ breaks_of p
   pub zones_fit : length p.zones + p.spare ≤ zone_room
   pub breaks_fit : 2 * (length p.zones + p.spare) + 2 ≤ break_room
   pub others_fit : 2 * (length p.zones + p.spare) + 2 ≤ other_room
+  pub near_fit : length p.zones + p.spare ≤ near_room

@@ -1,7 +1,7 @@
 //! The breaks of the caps of zones: the points from which they are others than before.
 
-ghost use Rattle.std.specs.Prelude.{◌≡◌, ℕ, ◌+◌, ◌-◌, ◌≤◌, ◌<◌, IfOk, length, slice_index_or, vec_len, vec_capacity};
-ghost use Rattle.limit_profile.specs.Breaks.{breaks_below};
+ghost use Rattle.std.specs.Prelude.{◌≡◌, ℕ, ◌+◌, ◌-◌, ◌≤◌, ◌<◌, List, ◌++◌, IfOk, length, slice_index_or, take, vec_len, vec_capacity};
+ghost use Rattle.limit_profile.specs.Breaks.{AreBegun, breaks_below};
 ghost use Rattle.limit_profile.specs.Pieces.{ArePieces, IsPiece};
 
 use crate::pieces::Piece;
@@ -41,13 +41,13 @@ pub(crate) fn list_breaks(
 }
 
 // Adds a break where a piece begins with another number than the one before, `most`. The answer is the
-// number at the end of the piece.
+// number at the end of the piece. `breaks` are those past a front of them, which may be empty.
 pub(crate) fn begin(breaks: &mut Vec<Break>, from: u32, most: u32, piece: Piece) -> u32
     requires room { vec_len breaks.old < vec_capacity breaks.old }
-    ensures listed { (f : ℕ → ℕ) → IsPiece f from piece → (0 < from → f (from - 1) ≡ most)
-        → breaks.old.items ≡ breaks_below f from
+    ensures listed { (f : ℕ → ℕ) (front : List Break) → IsPiece f from piece
+        → (0 < from → f (from - 1) ≡ most) → front ++ breaks.old.items ≡ breaks_below f from
         → (0 < piece.until → f (piece.until - 1) ≡ result)
-        × (breaks.new.items ≡ breaks_below f piece.until) }
+        × (front ++ breaks.new.items ≡ breaks_below f piece.until) }
     ensures one { vec_len breaks.new ≤ vec_len breaks.old + 1 }
     ensures room { vec_capacity breaks.new ≡ vec_capacity breaks.old }
 {
@@ -105,8 +105,7 @@ pub(crate) fn break_from(breaks: &[Break], index: usize, point: u32) -> usize
 
 // Where in the list the last break up to a point stands, by halving.
 pub(crate) fn break_up_to(breaks: &[Break], point: u32) -> usize
-    requires some { 0 < length breaks.now }
-    requires first { (d : Break) → (slice_index_or breaks.now 0 d).at ≤ point }
+    requires { AreBegun breaks.now }
     ensures bound { result < length breaks.now }
     ensures last { (d : Break) → (slice_index_or breaks.now result d).at ≤ point }
     ensures next { (d : Break) → result + 1 < length breaks.now
@@ -123,4 +122,17 @@ pub(crate) fn break_up_to(breaks: &[Break], point: u32) -> usize
         past = middle;
     }
     last
+}
+
+// How many breaks stand below a point.
+pub(crate) fn count_below(breaks: &[Break], point: u32) -> usize
+    requires { AreBegun breaks.now }
+    ensures bound { result ≤ length breaks.now }
+    ensures below { (f : ℕ → ℕ) (to : ℕ) → breaks.now ≡ breaks_below f to → point ≤ to
+        → take result breaks.now ≡ breaks_below f point }
+{
+    if point == 0 {
+        return 0;
+    }
+    break_up_to(breaks, point - 1) + 1
 }

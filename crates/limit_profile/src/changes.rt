@@ -1,15 +1,18 @@
-//! What a change of the zones makes of the breaks, with no memory.
+//! What a change of the zones makes of the breaks, with no memory. Only the breaks from where the changed
+//! zone begins to bind up to where it has ended are made anew.
 
-ghost use Rattle.std.specs.Prelude.{◌≡◌, ℕ, ◌+◌, ◌*◌, ◌≤◌, ◌<◌, All, length, min, vec_capacity};
+ghost use Rattle.std.specs.Prelude.{◌≡◌, true, false, ℕ, ◌+◌, ◌-◌, ◌*◌, ◌≤◌, ◌<◌, [], ◌∷◌, ◌++◌, All, drop, length, min, take, vec_len, vec_capacity};
 ghost use Rattle.unit_rules.specs.Zone.{LiesOn};
-ghost use Rattle.limit_profile.specs.Breaks.{breaks_below};
-ghost use Rattle.limit_profile.specs.Changes.{AreBefore, ComesFrom};
+ghost use Rattle.run_rules.specs.Caps.{binds_at};
+ghost use Rattle.run_rules.specs.Speeds.{squared};
+ghost use Rattle.limit_profile.specs.Breaks.{AreBegun, breaks_below};
+ghost use Rattle.limit_profile.specs.Changes.{AreBefore, ComesFrom, changed};
 ghost use Rattle.limit_profile.specs.Course.{IsCourse, zoned};
 ghost use Rattle.limit_profile.specs.Pieces.{IsPiece};
-ghost use Rattle.limit_profile.specs.declared.changes.Change.TheVariants.{Removed};
 
-use crate::breaks::{Break, begin, break_from, held_piece};
-use crate::pieces::{Course, Piece, binds, bound_until, lesser, zone_piece, zones_piece};
+use crate::breaks::{Break, begin, break_from, break_up_to, count_below, held_piece};
+use crate::pieces::{Course, Piece, binds, bound_until, released, zones_piece};
+use run_rules::squared;
 use unit_rules::Zone;
 
 /// What was done to a zone.
@@ -19,38 +22,125 @@ pub(crate) enum Change {
     Removed,
 }
 
-// Lists the breaks of zones in place of what stands in `list`, from the breaks before one of them was
-// added or another was removed.
-pub(crate) fn list_changed(
+// Makes of the breaks from before a zone was added or removed those that are after it. `zones` are those
+// that are left, or as many of them as bind where the zone bound; where one was added, none is looked at.
+pub(crate) fn change_breaks(
     course: Course,
     change: Change,
     zone: Zone,
     zones: &[Zone],
-    breaks: &[Break],
+    breaks: &mut Vec<Break>,
     list: &mut Vec<Break>,
 )
     requires course { IsCourse course }
     requires lies { LiesOn course.length zone }
     requires lie { All (LiesOn course.length) zones.now }
-    requires before { AreBefore course change zone zones.now breaks.now }
-    requires room { 2 * length zones.now + 2 ≤ vec_capacity list.old }
-    ensures listed { list.new.items ≡ breaks_below (zoned course zones.now) (course.length + 1) }
+    requires before { AreBefore course change zone zones.now breaks.old.items
+        (min (vec_capacity breaks.old) (vec_capacity list.old)) }
+    ensures listed { (f g : ℕ → ℕ) → ComesFrom course change zone zones.now f g
+        → breaks.old.items ≡ breaks_below f (course.length + 1)
+        → breaks.new.items ≡ breaks_below g (course.length + 1) }
+    ensures room { vec_capacity breaks.old ≤ vec_capacity breaks.new }
+    ensures list_room { vec_capacity list.old ≤ vec_capacity list.new }
+{
+    let until = released(course, zone).min(course.length) + 1;
+    list_stretch(course, change, zone, zones, breaks, until, list);
+    let first = count_below(breaks, zone.from);
+    let past = count_below(breaks, until);
+    put_between(breaks, first, past, list);
+}
+
+// Makes of the breaks from before a zone was removed those of the zones that are left. Some of these are
+// listed in `near`.
+pub(crate) fn free_breaks(
+    course: Course,
+    zone: Zone,
+    zones: &[Zone],
+    near: &mut Vec<Zone>,
+    breaks: &mut Vec<Break>,
+    list: &mut Vec<Break>,
+)
+    requires course { IsCourse course }
+    requires lies { LiesOn course.length zone }
+    requires lie { All (LiesOn course.length) zones.now }
+    requires before { breaks.old.items ≡ breaks_below (λ i. min (zoned course zones.now i)
+        (zoned course (zone ∷ []) i)) (course.length + 1) }
+    requires near_room { length zones.now ≤ vec_capacity near.old }
+    requires room { 2 * length zones.now + 2 ≤ vec_capacity breaks.old }
+    requires list_room { 2 * length zones.now + 2 ≤ vec_capacity list.old }
+    ensures listed { breaks.new.items ≡ breaks_below (zoned course zones.now) (course.length + 1) }
+    ensures near_room { vec_capacity near.new ≡ vec_capacity near.old }
+    ensures room { vec_capacity breaks.old ≤ vec_capacity breaks.new }
+    ensures list_room { vec_capacity list.old ≤ vec_capacity list.new }
+{
+    if is_hidden(course, zone, breaks) {
+        return;
+    }
+    list_near(course, zone, zones, near);
+    change_breaks(course, Change::Removed, zone, near, breaks, list);
+}
+
+// Lists the breaks from where a changed zone begins to bind up to a point.
+fn list_stretch(
+    course: Course,
+    change: Change,
+    zone: Zone,
+    zones: &[Zone],
+    breaks: &[Break],
+    until: u32,
+    list: &mut Vec<Break>,
+)
+    requires course { IsCourse course }
+    requires lies { LiesOn course.length zone }
+    requires lie { All (LiesOn course.length) zones.now }
+    requires past { zone.from ≤ until }
+    requires on_line { until ≤ course.length + 1 }
+    requires before { AreBefore course change zone zones.now breaks.now (vec_capacity list.old) }
+    ensures listed { (f g : ℕ → ℕ) → ComesFrom course change zone zones.now f g
+        → breaks.now ≡ breaks_below f (course.length + 1)
+        → breaks_below g zone.from ++ list.new.items ≡ breaks_below g until }
     ensures room { vec_capacity list.new ≡ vec_capacity list.old }
 {
     list.clear();
-    let mut index = 0;
-    let mut point = 0;
-    let mut most = 0;
-    while point <= course.length {
+    let mut index = break_up_to(breaks, zone.from.saturating_sub(1));
+    let mut point = zone.from;
+    let mut most = breaks[index].most;
+    while point < until {
         index = break_from(breaks, index, point);
         let held = held_piece(breaks, index, point, course.length + 1);
-        let piece = changed_piece(course, change, zone, zones, held, point);
+        let piece = cut(
+            changed_piece(course, change, zone, zones, held, point),
+            until,
+        );
         most = begin(list, point, most, piece);
         point = piece.until;
     }
 }
 
-// The piece of the caps of zones from a point on, from the piece before the change.
+// Puts a list in place of the breaks from one index up to another. Those past it are copied behind the
+// list and back, as whole pieces of memory.
+fn put_between(breaks: &mut Vec<Break>, first: usize, past: usize, list: &mut Vec<Break>)
+    requires ordered { first ≤ past }
+    requires bound { past ≤ vec_len breaks.old }
+    requires room { first + vec_len list.old + (vec_len breaks.old - past)
+        ≤ vec_capacity breaks.old }
+    requires list_room { vec_len list.old + (vec_len breaks.old - past) ≤ vec_capacity list.old }
+    ensures items { breaks.new.items ≡ take first breaks.old.items
+        ++ (list.old.items ++ drop past breaks.old.items) }
+    ensures room { vec_capacity breaks.old ≤ vec_capacity breaks.new }
+    ensures list_room { vec_capacity list.old ≤ vec_capacity list.new }
+{
+    let Ok(()) = list.extend_from_slice(&breaks[past..]) else {
+        return;
+    };
+    breaks.truncate(first);
+    let Ok(()) = breaks.extend_from_slice(list) else {
+        return;
+    };
+}
+
+// The piece of the caps from a point on, from the piece before the change. Where the zone doesn't bind,
+// the caps are as before.
 fn changed_piece(
     course: Course,
     change: Change,
@@ -65,34 +155,41 @@ fn changed_piece(
     requires on_line { point ≤ course.length }
     requires past { point < held.until }
     ensures past { point < result.until }
-    ensures on_line { result.until ≤ course.length + 1 }
-    ensures piece { (f : ℕ → ℕ) → ComesFrom course change zone zones.now f → IsPiece f point held
-        → IsPiece (zoned course zones.now) point result }
+    ensures piece { (f g : ℕ → ℕ) → ComesFrom course change zone zones.now f g
+        → IsPiece f point held → IsPiece g point result }
 {
-    match change {
-        Change::Added => lesser(held, zone_piece(course, zone, point)),
-        Change::Removed => removed_piece(course, zone, zones, held, point),
+    let until = bound_until(course, zone, point);
+    if binds(course, zone, point) {
+        return cut(bound_piece(course, change, zone, zones, held, point), until);
     }
+    cut(held, until)
 }
 
-// The piece of the caps of zones from a point on, where another zone was removed: all zones are gone
-// through where it bound, and elsewhere the caps are as before.
-fn removed_piece(course: Course, zone: Zone, zones: &[Zone], held: Piece, point: u32) -> Piece
+// The piece of the caps from a point on at which the changed zone binds.
+fn bound_piece(
+    course: Course,
+    change: Change,
+    zone: Zone,
+    zones: &[Zone],
+    held: Piece,
+    point: u32,
+) -> Piece
     requires course { IsCourse course }
     requires lies { LiesOn course.length zone }
     requires lie { All (LiesOn course.length) zones.now }
     requires on_line { point ≤ course.length }
     requires past { point < held.until }
     ensures past { point < result.until }
-    ensures on_line { result.until ≤ course.length + 1 }
-    ensures piece { (f : ℕ → ℕ) → ComesFrom course Removed zone zones.now f
-        → IsPiece f point held → IsPiece (zoned course zones.now) point result }
+    ensures piece { (f : ℕ → ℕ) → IsPiece f point held
+        → IsPiece (changed course change zone zones.now f) point result }
 {
-    let until = bound_until(course, zone, point);
-    if binds(course, zone, point) {
-        return cut(zones_piece(course, zones, point), until);
+    match change {
+        Change::Added => Piece {
+            until: held.until,
+            most: held.most.min(squared(zone.kmh)),
+        },
+        Change::Removed => zones_piece(course, zones, point),
     }
-    cut(held, until)
 }
 
 // What of a piece lies below a point.
@@ -104,4 +201,56 @@ fn cut(piece: Piece, until: u32) -> Piece
         until: piece.until.min(until),
         most: piece.most,
     }
+}
+
+// Whether the caps are below that of a zone wherever it binds, so that nothing changes without it.
+fn is_hidden(course: Course, zone: Zone, breaks: &[Break]) -> bool
+    requires course { IsCourse course }
+    requires lies { LiesOn course.length zone }
+    requires begun { AreBegun breaks.now }
+    ensures { result ≡ true → (f : ℕ → ℕ) → breaks.now ≡ breaks_below f (course.length + 1)
+        → (i : ℕ) → binds_at course.length course.train i zone ≡ true → f i < squared zone.kmh }
+{
+    let end = released(course, zone);
+    let mut index = break_up_to(breaks, zone.from);
+    let mut point = zone.from;
+    while point < end {
+        index = break_from(breaks, index, point);
+        let held = held_piece(breaks, index, point, course.length + 1);
+        if squared(zone.kmh) <= held.most {
+            return false;
+        }
+        point = held.until;
+    }
+    true
+}
+
+// Lists the zones that bind somewhere where a zone does.
+fn list_near(course: Course, zone: Zone, zones: &[Zone], near: &mut Vec<Zone>)
+    requires course { IsCourse course }
+    requires lies { LiesOn course.length zone }
+    requires lie { All (LiesOn course.length) zones.now }
+    requires room { length zones.now ≤ vec_capacity near.old }
+    ensures lie { All (LiesOn course.length) near.new.items }
+    ensures same { (i : ℕ) → binds_at course.length course.train i zone ≡ true
+        → zoned course near.new.items i ≡ zoned course zones.now i }
+    ensures room { vec_capacity near.new ≡ vec_capacity near.old }
+{
+    near.clear();
+    for other in zones {
+        if meets(course, zone, *other) {
+            near.push_reserved(*other);
+        }
+    }
+}
+
+// Whether two zones bind at one point.
+fn meets(course: Course, zone: Zone, other: Zone) -> bool
+    requires course { IsCourse course }
+    requires lies { LiesOn course.length zone }
+    requires other { LiesOn course.length other }
+    ensures { result ≡ false → (i : ℕ) → binds_at course.length course.train i zone ≡ true
+        → binds_at course.length course.train i other ≡ false }
+{
+    zone.from < released(course, other) && other.from < released(course, zone)
 }

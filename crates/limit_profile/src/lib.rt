@@ -16,11 +16,10 @@ mod pieces;
 
 pub use crate::breaks::Break;
 use crate::breaks::{break_up_to, held_piece, list_breaks};
-use crate::changes::{Change, list_changed};
+use crate::changes::{Change, change_breaks, free_breaks};
 use crate::pieces::{Course, zoned_pieces};
 use std::alloc::Global;
 use std::marker::Model;
-use std::mem::swap;
 use unit_rules::{Bound, Memory, Zone};
 
 /// A stretch of points, from one up to another, that have one cap. It is empty where it ends before
@@ -57,8 +56,9 @@ pub struct Limits {
     // How many zones can be added with no more memory.
     spare: usize,
     breaks: Vec<Break>,
-    // In which the breaks are listed anew.
+    // In which the breaks of a changed zone are listed, and the zones that bind where it did.
     other: Vec<Break>,
+    near: Vec<Zone>,
 }
 
 impl Model for Limits {
@@ -84,7 +84,8 @@ impl Model for Limits {
       zones = l.zones.items;
       bounds = l.bounds.items;
       spare = l.spare;
-    }) l.breaks.items (vec_capacity l.zones) (vec_capacity l.breaks) (vec_capacity l.other) };
+    }) l.breaks.items (vec_capacity l.zones) (vec_capacity l.breaks) (vec_capacity l.other)
+        (vec_capacity l.near) };
 }
 
 impl Limits {
@@ -106,7 +107,8 @@ impl Limits {
         let room = break_room(zones.len());
         let breaks = list_breaks(alloc, &pieces, room.max(pieces.len()))?;
         let other = list_breaks(alloc, &[], room)?;
-        let (Ok(zones), Ok(bounds)) = (
+        let (Ok(near), Ok(zones), Ok(bounds)) = (
+            Vec::with_capacity(alloc, zones.len()),
             Vec::from_slice(alloc, zones),
             Vec::from_slice(alloc, bounds),
         ) else {
@@ -119,6 +121,7 @@ impl Limits {
             spare: 0,
             breaks,
             other,
+            near,
         })
     }
 
@@ -139,8 +142,9 @@ impl Limits {
             return Err(Memory);
         }
         let room = break_room(zones);
-        let (Ok(()), Ok(()), Ok(())) = (
+        let (Ok(()), Ok(()), Ok(()), Ok(())) = (
             self.zones.reserve(count),
+            grow(&mut self.near, zones),
             grow(&mut self.breaks, room),
             grow(&mut self.other, room),
         ) else {
@@ -158,15 +162,14 @@ impl Limits {
     {
         self.zones.push_reserved(zone);
         self.spare -= 1;
-        list_changed(
+        change_breaks(
             self.course,
             Change::Added,
             zone,
-            &self.zones,
-            &self.breaks,
+            &[],
+            &mut self.breaks,
             &mut self.other,
         );
-        swap(&mut self.breaks, &mut self.other);
     }
 
     /// Removes one of the zones. Where several are equal to it, the others stay.
@@ -177,15 +180,14 @@ impl Limits {
         let index = index_of(&self.zones, zone);
         self.zones.remove(index);
         self.spare += 1;
-        list_changed(
+        free_breaks(
             self.course,
-            Change::Removed,
             zone,
             &self.zones,
-            &self.breaks,
+            &mut self.near,
+            &mut self.breaks,
             &mut self.other,
         );
-        swap(&mut self.breaks, &mut self.other);
     }
 
     /// The breaks of the caps of the zones: the points from which they are others than before, with 0
@@ -291,13 +293,13 @@ fn break_room(zones: usize) -> usize
     2 * zones + 2
 }
 
-// Makes room for so many breaks.
-fn grow(breaks: &mut Vec<Break>, room: usize) -> Result<(), Memory>
-    ensures kept { breaks.new.items ≡ breaks.old.items }
-    ensures grown { vec_capacity breaks.old ≤ vec_capacity breaks.new }
-    ensures room { OnOk result (room ≤ vec_capacity breaks.new) }
+// Makes room for so many elements.
+fn grow<T>(list: &mut Vec<T>, room: usize) -> Result<(), Memory>
+    ensures kept { list.new.items ≡ list.old.items }
+    ensures grown { vec_capacity list.old ≤ vec_capacity list.new }
+    ensures room { OnOk result (room ≤ vec_capacity list.new) }
 {
-    let Ok(()) = breaks.reserve(room.saturating_sub(breaks.len())) else {
+    let Ok(()) = list.reserve(room.saturating_sub(list.len())) else {
         return Err(Memory);
     };
     Ok(())
@@ -472,6 +474,62 @@ mod tests {
         limits.remove(SLOW);
         assert!(rt; limits.breaks() == [at(0, 36_000_000), at(3, 40_000)].as_slice());
         Ok(())
+    }
+
+    // On a line of 100 m, for a train of 20 m: zones at the line's ends and over the whole of it, equal
+    // ones, one within another, one that ends where the next begins to bind, and one that is released
+    // at the line's last point, or just before it.
+    #[test]
+    fn edits(rt: HostRuntime) -> Result<(), Fail> {
+        let alloc = rt.alloc();
+        let near = zone(40, 60, 30);
+        assert!(rt; holds(alloc, &[], zone(0, 5, 20)));
+        assert!(rt; holds(alloc, &[near], zone(95, 100, 20)));
+        assert!(rt; holds(alloc, &[near, zone(70, 75, 10)], zone(0, 100, 20)));
+        assert!(rt; holds(alloc, &[zone(0, 100, 20)], near));
+        assert!(rt; holds(alloc, &[near], near));
+        assert!(rt; holds(alloc, &[near], zone(45, 50, 10)));
+        assert!(rt; holds(alloc, &[near], zone(45, 50, 50)));
+        assert!(rt; holds(alloc, &[near], zone(10, 20, 10)));
+        assert!(rt; holds(alloc, &[near], zone(10, 19, 30)));
+        assert!(rt; holds(alloc, &[near], zone(70, 80, 10)));
+        assert!(rt; holds(alloc, &[near], zone(70, 79, 10)));
+        Ok(())
+    }
+
+    // Whether the breaks are those of new limits after a zone is added, and again after it is removed.
+    // Where memory is wanting, nothing is compared.
+    fn holds(alloc: Global, zones: &[Zone], zone: Zone) -> bool
+        requires lie { All (LiesOn 100) zones.now }
+        requires lies { LiesOn 100 zone }
+    {
+        let (Ok(mut limits), Ok(before), Ok(mut more)) = (
+            Limits::new(alloc, 100, 20, 60, zones, &[]),
+            Limits::new(alloc, 100, 20, 60, zones, &[]),
+            Vec::from_slice(alloc, zones),
+        ) else {
+            return true;
+        };
+        let (Ok(()), Ok(())) = (limits.reserve(1), more.push(zone)) else {
+            return true;
+        };
+        let Ok(after) = Limits::new(alloc, 100, 20, 60, &more, &[]) else {
+            return true;
+        };
+        limits.add(zone);
+        let added = limits.breaks() == after.breaks();
+        limits.remove(zone);
+        added && limits.breaks() == before.breaks()
+    }
+
+    fn zone(from: u32, to: u32, kmh: u32) -> Zone
+        requires rises { from < to }
+        requires ends { to ≤ 100 }
+        requires slow { 1 ≤ kmh }
+        requires fast { kmh ≤ 500 }
+        ensures { LiesOn 100 result }
+    {
+        Zone { from, to, kmh }
     }
 
     fn at(at: u32, most: u32) -> Break {

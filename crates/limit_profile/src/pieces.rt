@@ -82,7 +82,7 @@ fn bound_pieces(alloc: Global, course: Course, zone: Zone) -> Result<Vec<Piece>,
 }
 
 // The first point at which a zone binds no more.
-fn released(course: Course, zone: Zone) -> u32
+pub(crate) fn released(course: Course, zone: Zone) -> u32
     requires course { IsCourse course }
     requires lies { LiesOn course.length zone }
     ensures { result ≡ min course.length (zone.to + course.train) + 1 }

@@ -1,32 +1,41 @@
-use Rattle.std.proofs.Common.{List, [], ◌∷◌, arith, ap, length, ◌∙◌}
+use Rattle.std.proofs.Common.{List, [], ◌∷◌, ◌++◌, ◌+◌, arith, ap, length, ◌∙◌}
 use Rattle.std.proofs.lemmas.List.{length-append}
 use Rattle.std.proofs.lemmas.List.Elements.{All-push}
 use Rattle.unit_rules.specs.Zone.{LiesOn}
 use Rattle.unit_rules.specs.declared.Zone.{Zone}
-use Rattle.limit_profile.specs.Profile.{Profile}
 use Rattle.limit_profile.specs.Course.{zoned}
-use Rattle.limit_profile.proofs.ZoneFacts.{zoned_at-append}
+use Rattle.limit_profile.proofs.CountFacts.{count-zones}
+use Rattle.limit_profile.proofs.ZoneFacts.{zoned_at-added}
 use Rattle.limit_profile.proofs.Limits.add.Goals as goal
 
-pub list_changed-requires-clause-before : goal.list_changed-requires-clause-before
-list_changed-requires-clause-before c =
+pub change_breaks-requires-clause-before : goal.change_breaks-requires-clause-before
+change_breaks-requires-clause-before c =
+    let kept = c.self.invariant in
     let course = c.self.inside.course in
     let zones = c.self.inside.zones.items in
+    let more = zones ++ c.args.zone ∷ [] in
+    let longer = length-append zones (c.args.zone ∷ []) in
+    let lie = All-push (LiesOn course.length) zones c.args.zone kept.profile.zones_lie (rw (← c.self.view_is) at c.requires.lies) in
+    let few = count-zones course.length course.train course.top more (course.length + 1) lie in
+    let spare = rw (← c.self.view_is) at c.requires.spare in
     record {
-      caps = zoned course zones;
-      come = λ i. rw (c.deref.ensures.value ∙ c.push_reserved.ensures.items) (zoned_at-append course.length course.train course.top zones (c.args.zone ∷ []) i);
-      listed = c.deref-2.ensures.value ∙ c.self.invariant.listed;
+      before = zoned course zones;
+      after = zoned course more;
+      come = zoned_at-added course zones c.args.zone;
+      listed = kept.listed;
+      fit = omega (arith, few, longer, spare, kept.breaks_fit, kept.others_fit);
     }
 
 pub invariant_of-self : goal.invariant_of-self
 invariant_of-self c =
-    let before = c.self.invariant.profile in
+    let kept = c.self.invariant in
+    let before = kept.profile in
+    let course = c.self.inside.course in
+    let zones = c.self.inside.zones.items in
     let items = c.push_reserved.ensures.items in
-    let longer = ap (λ (zs : List Zone). length zs) items ∙ length-append c.self.inside.zones.items (c.args.zone ∷ []) in
-    let fits = c.self.invariant.zones_fit in
-    let breaks = c.self.invariant.breaks_fit in
-    let others = c.self.invariant.others_fit in
-    let spare = ap (λ (p : Profile). p.spare) c.self.view_is in
+    let longer = ap (λ (zs : List Zone). length zs) items ∙ length-append zones (c.args.zone ∷ []) in
+    let spare = rw (← c.self.view_is) at c.requires.spare in
+    let more = c.change_breaks.ensures in
     record {
       profile = record {
         length_least = before.length_least;
@@ -35,11 +44,12 @@ invariant_of-self c =
         train_most = before.train_most;
         top_least = before.top_least;
         top_most = before.top_most;
-        zones_lie = rw items (All-push (LiesOn c.self.inside.course.length) c.self.inside.zones.items c.args.zone before.zones_lie (rw (← c.self.view_is) at c.requires.lies));
+        zones_lie = rw items (All-push (LiesOn course.length) zones c.args.zone before.zones_lie (rw (← c.self.view_is) at c.requires.lies));
         bounds_lie = before.bounds_lie;
       };
-      listed = rw c.swap.ensures.x_after (rw c.deref.ensures.value at c.list_changed.ensures.listed);
-      zones_fit = omega (arith, c.requires.spare, c.push_reserved.ensures.capacity);
-      breaks_fit = rw c.swap.ensures.x_after (omega (arith, c.requires.spare, c.list_changed.ensures.room));
-      others_fit = rw c.swap.ensures.y_after (omega (arith, c.requires.spare));
+      listed = rw items (more.listed (zoned course zones) (zoned course (zones ++ c.args.zone ∷ [])) (zoned_at-added course zones c.args.zone) kept.listed);
+      zones_fit = omega (arith, longer, spare, kept.zones_fit, c.push_reserved.ensures.capacity);
+      breaks_fit = omega (arith, longer, spare, kept.breaks_fit, more.room);
+      others_fit = omega (arith, longer, spare, kept.others_fit, more.list_room);
+      near_fit = omega (arith, longer, spare, kept.near_fit);
     }

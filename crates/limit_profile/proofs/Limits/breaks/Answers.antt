@@ -1,19 +1,19 @@
 use Rattle.std.proofs.Common.{◌+◌, ap, arith, ◌∙◌}
 use Rattle.limit_profile.specs.Course.{zoned}
 use Rattle.limit_profile.specs.Profile.{Profile}
-use Rattle.limit_profile.proofs.BreakFacts.{breaks_below-below, breaks_below-first, breaks_below-followed, breaks_below-some}
+use Rattle.limit_profile.proofs.BreakFacts.{breaks_below-starts, breaks_below-below, breaks_below-followed}
 use Rattle.limit_profile.proofs.CountFacts.{count-zones}
 use Rattle.limit_profile.proofs.Limits.breaks.Goals as goal
 
 pub returns-clause-some : goal.returns-clause-some
 returns-clause-some c =
     let course = c.self.inside.course in
-    breaks_below-some (zoned course c.self.inside.zones.items) (course.length + 1) c.deref.result.now (omega arith) (c.deref.ensures.value ∙ c.self.invariant.listed)
+    (breaks_below-starts (zoned course c.self.inside.zones.items) (course.length + 1) c.deref.result.now (omega arith) (c.deref.ensures.value ∙ c.self.invariant.listed)).some
 
 pub returns-clause-first : goal.returns-clause-first
 returns-clause-first c = λ d.
     let course = c.self.inside.course in
-    breaks_below-first (zoned course c.self.inside.zones.items) (course.length + 1) c.deref.result.now d (omega arith) (c.deref.ensures.value ∙ c.self.invariant.listed)
+    (breaks_below-starts (zoned course c.self.inside.zones.items) (course.length + 1) c.deref.result.now (omega arith) (c.deref.ensures.value ∙ c.self.invariant.listed)).first d
 
 pub returns-clause-rising : goal.returns-clause-rising
 returns-clause-rising c = λ k d l.

@@ -1,17 +1,18 @@
-use Rattle.std.proofs.Common.{◌≡◌, ◌∷◌, [], ℕ, min, subst}
-use Rattle.limit_profile.specs.Changes.{ComesFrom}
-use Rattle.limit_profile.specs.Course.{zoned}
-use Rattle.limit_profile.specs.declared.changes.Change.{Change}
-use Rattle.limit_profile.proofs.PieceFacts.{IsPiece-lesser}
+use Rattle.std.proofs.Common.{arith, sym, ◌∙◌}
+use Rattle.limit_profile.specs.Changes.{changed}
+use Rattle.limit_profile.proofs.PieceFacts.{IsPiece-cut}
 use Rattle.limit_profile.proofs.changes.changed_piece.Goals as goal
 
-pub returns-in-Added-clause-piece : goal.returns-in-Added-clause-piece
-returns-in-Added-clause-piece c = λ f come h.
-    let course = c.args.course in
-    let caps = zoned course c.args.zones.now in
-    let lesser : (i : ℕ) → caps i ≡ min (f i) (zoned course (c.args.zone ∷ []) i) = subst (λ (change : Change). ComesFrom course change c.args.zone c.args.zones.now f) c.in-Added.is come in
-    IsPiece-lesser f (zoned course (c.args.zone ∷ [])) caps c.args.point c.args.held c.zone_piece.result c.lesser.result lesser h c.zone_piece.ensures.piece c.lesser.ensures.until c.lesser.ensures.most
+pub returns-then-binds-clause-piece : goal.returns-then-binds-clause-piece
+returns-then-binds-clause-piece c = λ f g come h.
+    let until = c.bound_until-until in
+    let past = until.ensures.past in
+    IsPiece-cut (changed c.args.course c.args.change c.args.zone c.args.zones.now f) g c.args.point until.result c.bound_piece.result c.cut.result (c.bound_piece.ensures.piece f h) (omega arith)
+    (λ i a b. come.inside i (until.ensures.same i a b ∙ sym c.binds.ensures ∙ c.if-binds.true)) c.cut.ensures.until c.cut.ensures.most
 
-pub returns-in-Removed-clause-piece : goal.returns-in-Removed-clause-piece
-returns-in-Removed-clause-piece c = λ f come h.
-    c.removed_piece.ensures.piece f (subst (λ (change : Change). ComesFrom c.args.course change c.args.zone c.args.zones.now f) c.in-Removed.is come) h
+pub returns-clause-piece : goal.returns-clause-piece
+returns-clause-piece c = λ f g come h.
+    let until = c.bound_until-until in
+    let past = until.ensures.past in
+    IsPiece-cut f g c.args.point until.result c.args.held c.cut-2.result h (omega arith)
+    (λ i a b. come.outside i (until.ensures.same i a b ∙ sym c.binds.ensures ∙ c.if-binds.false)) c.cut-2.ensures.until c.cut-2.ensures.most
