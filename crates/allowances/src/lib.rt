@@ -3,19 +3,23 @@
 #![tactic(auto)]
 
 ghost use Rattle.std.specs.Prelude.{◌≡◌, ◌+◌, ◌-◌, ◌*◌, ◌≤◌, All, IfOk, length, map};
-ghost use Rattle.time_brackets.specs.Sums.{block_cells};
+ghost use Rattle.unit_rules.specs.Limits.{longest_line};
+ghost use Rattle.time_brackets.specs.Sums.{StandsPast, block_cells};
+ghost use Rattle.allowances.specs.Arrivals.{arrival};
 ghost use Rattle.allowances.specs.Allowances.{amount_of};
 ghost use Rattle.allowances.specs.Laws.{FasterIsNoLater};
 ghost use Rattle.allowances.specs.Rows.{IsTimed, row_count, rows_of, section_count};
 ghost use Rattle.allowances.specs.WholeRuns.{IsWholeRun};
 
 mod allowance;
+mod arrival;
 mod plan;
 mod progress;
 mod run;
 #[cfg(test)]
 mod tests;
 
+use crate::arrival::{later, seconds_before};
 use crate::plan::{allowances_of, amounts_in};
 use crate::run::Run;
 use plan_tables::Plan;
@@ -102,6 +106,24 @@ pub fn planned<L: Ledger>(
         allowances: &allowances,
     };
     run.rows(alloc, steps)
+}
+
+/// When a train of squared speeds `e` comes to a point, by a plan. The sums stand for so many numbers
+/// of `e` that the one at the point is among them.
+pub fn arrival_at<L: Ledger>(
+    plan: &Plan,
+    sums: &Sums,
+    e: &[u32],
+    point: u32,
+    steps: &mut Steps<L>,
+) -> Bracket
+    requires stands { StandsPast sums.now e.now point }
+    requires on_line { point ≤ longest_line }
+    ensures arrival { result ≡ arrival plan.now e.now point }
+    ensures cost { steps.new ≤ steps.old + block_cells }
+{
+    let time = sums.upto(point, e, steps);
+    later(time, seconds_before(plan, point))
 }
 
 /// The law of arrivals that follows from the definitions alone: under one plan, a train that is

@@ -4,11 +4,12 @@ ghost use Rattle.std.specs.Prelude.{◌≡◌, ◌+◌, ◌*◌, ◌^◌, ◌≤
 ghost use Rattle.plan_tables.specs.Limits.{longest_dwell, most_sections};
 ghost use Rattle.time_brackets.specs.Sums.{block_cells, longest_at, sum_over};
 ghost use Rattle.allowances.specs.Allowances.{added_at, most_added};
-ghost use Rattle.allowances.specs.Arrivals.{dwell_of, later, second};
+ghost use Rattle.allowances.specs.Arrivals.{dwell_of};
 ghost use Rattle.allowances.specs.Progress.{IsLaid, IsProgressAt};
 ghost use Rattle.allowances.specs.Rows.{IsTimed, row_at, row_count, row_kind, rows_of};
 
 use crate::allowance::Allowance;
+use crate::arrival::later;
 use crate::progress::Progress;
 use crate::{Row, RowKind};
 use plan_tables::{CallKind, Plan};
@@ -16,9 +17,6 @@ use std::alloc::Global;
 use std::sync::ledger::Ledger;
 use time_brackets::{Bracket, Sums};
 use unit_rules::{Memory, Steps};
-
-// Nanoseconds.
-const SECOND: u64 = 1_000_000_000;
 
 const MILLISECOND: u64 = 1_000_000;
 
@@ -133,17 +131,5 @@ fn standing(kind: CallKind) -> (RowKind, u32)
     match kind {
         CallKind::Stop { dwell } => (RowKind::Stop, dwell),
         CallKind::Pass => (RowKind::Pass, 0),
-    }
-}
-
-// Both ends of a bracket, so many seconds later.
-fn later(times: Bracket, seconds: u64) -> Bracket
-    requires lo { times.lo + second * seconds < 2 ^ 64 }
-    requires hi { times.hi + second * seconds < 2 ^ 64 }
-    ensures { result ≡ later times seconds }
-{
-    Bracket {
-        lo: times.lo + SECOND * seconds,
-        hi: times.hi + SECOND * seconds,
     }
 }

@@ -1,9 +1,10 @@
 //! What a train is on a line: the pulls, the step rule and the limits, made of its tables.
 #![tactic(auto)]
 
-ghost use Rattle.std.specs.Prelude.{◌≡◌, ◌≤◌, All, IfOk};
-ghost use Rattle.case_rules.specs.Case.{case_caps, plan_caps, train_pulls, train_rule};
+ghost use Rattle.std.specs.Prelude.{◌≡◌, ◌≤◌, [], All, IfOk};
+ghost use Rattle.case_rules.specs.Case.{case_caps, case_profile, plan_caps, train_motion, train_pulls, train_rule};
 ghost use Rattle.limit_profile.specs.Profile.{caps};
+ghost use Rattle.plan_tables.specs.Bounds.{bounds_of};
 ghost use Rattle.plan_tables.specs.Plan.{PlanLiesOn};
 ghost use Rattle.run_rules.specs.StepRules.{IsPull};
 ghost use Rattle.step_rule.specs.Motion.{cells_of, kmh_of, step_rule_of};
@@ -30,6 +31,7 @@ pub fn pulls_on(alloc: Global, line: &Line, stock: &Stock) -> Result<Vec<i64>, M
 pub fn rule_by(line: &Line, stock: Stock, pulls: Vec<i64>) -> Rule
     requires pulls { pulls.items ≡ train_pulls line.now stock }
     requires small { All IsPull pulls.items }
+    ensures motion { result ≡ train_motion line.now stock }
     ensures rule { step_rule_of result ≡ train_rule line.now stock }
     ensures pulls { result.pulls ≡ pulls.items }
     ensures cells { cells_of result ≡ line.now.length }
@@ -44,6 +46,7 @@ pub fn rule_by(line: &Line, stock: Stock, pulls: Vec<i64>) -> Rule
 
 /// The step rule of a train on a line.
 pub fn rule_on(alloc: Global, line: &Line, stock: Stock) -> Result<Rule, Memory>
+    ensures motion { IfOk result (λ rule. rule ≡ train_motion line.now stock) }
     ensures rule { IfOk result (λ rule. step_rule_of rule ≡ train_rule line.now stock) }
     ensures cells { IfOk result (λ rule. cells_of rule ≡ line.now.length) }
     ensures top { IfOk result (λ rule. kmh_of rule ≡ stock.top) }
@@ -63,6 +66,8 @@ pub fn limits_on(
 ) -> Result<Limits, Memory>
     requires restrictions { All (LiesOn line.now.length) restrictions.now }
     requires bounds { All (λ b. b.at ≤ line.now.length) bounds.now }
+    ensures profile { IfOk result (λ limits.
+        limits ≡ case_profile line.now stock.now restrictions.now bounds.now) }
     ensures caps { IfOk result (λ limits.
         caps limits ≡ case_caps line.now stock.now restrictions.now bounds.now) }
     ensures length { IfOk result (λ limits. limits.length ≡ line.now.length) }
@@ -81,6 +86,8 @@ pub fn limits_on(
 /// The limits of a train on a line by a plan, without restrictions.
 pub fn plan_limits(alloc: Global, line: &Line, stock: &Stock, plan: &Plan) -> Result<Limits, Memory>
     requires { PlanLiesOn line.now.length plan.now }
+    ensures profile { IfOk result (λ limits.
+        limits ≡ case_profile line.now stock.now [] (bounds_of plan.now line.now.length)) }
     ensures caps { IfOk result (λ limits.
         caps limits ≡ plan_caps line.now stock.now plan.now) }
     ensures length { IfOk result (λ limits. limits.length ≡ line.now.length) }
