@@ -1,0 +1,7 @@
+pub mod EditFacts
+pub mod FindFacts
+pub mod ForceFacts
+pub mod KeptFacts
+pub mod PaddedFacts
+pub mod SeatFacts
+pub mod WordFacts

@@ -1,0 +1,16 @@
+//! Commands of sessions and of files of edits, and the restrictions that they put in force.
+#![tactic(auto)]
+
+mod commands;
+mod edits;
+mod force;
+mod ids;
+mod seats;
+#[cfg(test)]
+mod tests;
+mod words;
+
+pub use commands::{Command, CommandFault, read_command};
+pub use edits::{EditsFault, read_edits};
+pub use force::{EditFault, InForce, MOST_IN_FORCE};
+pub use ids::Id;
