@@ -1,0 +1,4 @@
+pub mod WalkFacts
+pub mod TouchedFacts
+pub mod ZoneFacts
+pub mod KeptFacts

@@ -1,0 +1,5 @@
+pub mod Touched
+pub mod Zones
+pub mod Runs
+pub mod Envelope
+pub mod Kept

@@ -1,0 +1,84 @@
+//! The braking list and the fastest run of a train, made once.
+
+ghost use Rattle.std.specs.Prelude.{◌≡◌, ◌≤◌, ◌+◌, ◌*◌, All, IfOk, length};
+ghost use Rattle.case_rules.specs.Case.{train_rule};
+ghost use Rattle.incr_envelope.specs.Envelope.{caps_under};
+ghost use Rattle.plan_tables.specs.Plan.{PlanLiesOn};
+ghost use Rattle.restrictions.specs.Force.{IsForce, zones_of};
+ghost use Rattle.run_rules.specs.Runs.{IsBrakingList, ReachesAs};
+ghost use Rattle.unit_rules.specs.Zone.{LiesOn};
+
+use crate::run::Drive;
+use crate::walks::{walked_back, walked_on};
+use case_rules::{limits_on, rule_on};
+use line_tables::Line;
+use plan_tables::{Plan, bounds};
+use restrictions::InForce;
+use std::alloc::Global;
+use std::sync::ledger::Ledger;
+use stock_tables::Stock;
+use unit_rules::{Memory, Steps, Zone};
+
+/// The braking list of a train on a line by a plan under the restrictions in force: by
+/// point the greatest squared
+/// speed, in (0.01 km/h)², from which the train can brake for all that is ahead.
+pub fn braking_list<L: Ledger>(
+    alloc: Global,
+    line: &Line,
+    stock: Stock,
+    plan: &Plan,
+    force: &InForce,
+    steps: &mut Steps<L>,
+) -> Result<Vec<u32>, Memory>
+    requires plan { PlanLiesOn line.now.length plan.now }
+    requires zones { All (LiesOn line.now.length) (zones_of force.now.pairs) }
+    ensures list { IfOk result (λ list. IsBrakingList (train_rule line.now stock)
+        (caps_under line.now stock plan.now force.now.pairs) list.items) }
+    ensures cost { steps.new ≤ steps.old + 33 * (line.now.length + 1) }
+{
+    let bounds = bounds(alloc, plan, line.length())?;
+    let zones = zones_in(alloc, force)?;
+    let limits = limits_on(alloc, line, &stock, &zones, &bounds)?;
+    let rule = rule_on(alloc, line, stock)?;
+    walked_back(alloc, &rule, &limits, steps)
+}
+
+/// The fastest run of a train over a line by a plan under the restrictions in force, or what goes
+/// before its stall.
+pub fn drive<L: Ledger>(
+    alloc: Global,
+    line: &Line,
+    stock: Stock,
+    plan: &Plan,
+    force: &InForce,
+    steps: &mut Steps<L>,
+) -> Result<Drive, Memory>
+    requires plan { PlanLiesOn line.now.length plan.now }
+    requires zones { All (LiesOn line.now.length) (zones_of force.now.pairs) }
+    ensures reaches { IfOk result (λ d. ReachesAs (train_rule line.now stock)
+        (caps_under line.now stock plan.now force.now.pairs) d.speeds.items d.reach) }
+    ensures long { IfOk result (λ d. length d.speeds.items ≡ line.now.length + 1) }
+    ensures cost { steps.new ≤ steps.old + (33 * (line.now.length + 1) + line.now.length) }
+{
+    let bounds = bounds(alloc, plan, line.length())?;
+    let zones = zones_in(alloc, force)?;
+    let limits = limits_on(alloc, line, &stock, &zones, &bounds)?;
+    let rule = rule_on(alloc, line, stock)?;
+    let brakes = walked_back(alloc, &rule, &limits, steps)?;
+    walked_on(alloc, &rule, &brakes, steps)
+}
+
+// The zones of the restrictions in force.
+pub(crate) fn zones_in(alloc: Global, force: &InForce) -> Result<Vec<Zone>, Memory>
+    ensures zones { IfOk result (λ zones. zones.items ≡ zones_of force.now.pairs) }
+    ensures kept { IsForce force.now }
+{
+    let mut zones = Vec::new(alloc);
+    for place in 0..force.len() {
+        let (_id, zone) = force.nth(place);
+        let Ok(()) = zones.push(zone) else {
+            return Err(Memory);
+        };
+    }
+    Ok(zones)
+}
