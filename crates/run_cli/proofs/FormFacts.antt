@@ -1,5 +1,5 @@
 -- What holds of each form: it has one answer at most, and it is silent until it is served.
-use Rattle.std.proofs.Common.{ℕ, List, Option, Some, None}
+use Rattle.std.proofs.Common.{ℕ, List, [], Option, Some, None}
 use Rattle.plan_tables.specs.Plan.{empty_plan}
 use Rattle.run_io.specs.Fetches.{Files}
 use Rattle.run_words.specs.Requests.{Request, request_of}
@@ -25,9 +25,9 @@ form_facts (Some (Rise line stock kmh)) =
 form_facts (Some (Brakes line stock)) =
     record { once = λ files input. ByBoth-once line stock files _ IsBrakes-once; silent = (alone _ _ _ _).quiet }
 form_facts (Some (Envelope line stock)) =
-    record { once = λ files input. ByBoth-once line stock files _ (λ table train. IsEnvelope-once table train empty_plan); silent = (alone _ _ _ _).quiet }
-form_facts (Some (Plan line stock plan kind)) =
-    record { once = λ files input. ByCase-once (case_names line stock plan) files _ (plan_answer-once kind); silent = (alone _ _ _ _).quiet }
+    record { once = λ files input. ByBoth-once line stock files _ (λ table train. IsEnvelope-once table train empty_plan []); silent = (alone _ _ _ _).quiet }
+form_facts (Some (Plan line stock plan kind edits)) =
+    record { once = λ files input. ByCase-once (case_names line stock plan edits) files _ (plan_answer-once kind); silent = (alone _ _ _ _).quiet }
 
 pub answers_once : WordsAnswerOnce
 answers_once words files input =

@@ -1,6 +1,5 @@
 pub mod ServeFacts
 pub mod LoadFacts
-pub mod WalkFacts
 pub mod OnceFacts
 pub mod FormFacts
 mod TimeFacts

@@ -1,16 +1,21 @@
 -- Files that are loaded, and why others are not.
-use Rattle.std.proofs.Common.{◌≡◌, ◌⊎◌, ◌≤◌, ◌++◌, Bool, true, false, ℕ, List, [], ◌∷◌, length, Option, Some, None, Result, Ok, Err, IfErr, IfOk, IfSome, refl, sym, ap, inl, inr, arith, ◌∙◌}
-use Rattle.std.specs.Prelude.{nat_lt}
+use Rattle.std.proofs.Common.{◌≡◌, ◌⊎◌, ◌≤◌, ◌++◌, Bool, true, false, ℕ, List, [], ◌∷◌, length, Option, Some, None, Result, Ok, Err, IfErr, IfOk, IfSome, All, refl, sym, ap, inl, inr, arith, ◌∙◌}
+use Rattle.std.specs.Prelude.{nat_lt, if◌then◌else◌}
+use Rattle.std.specs.Option.{option_or}
 use Rattle.line_tables.specs.Line.{LineView}
+use Rattle.std.proofs.lemmas.List.Elements.{All-nil}
+use Rattle.restrictions.specs.Force.{zones_of}
+use Rattle.unit_rules.specs.Zone.{LiesOn}
+use Rattle.unit_rules.specs.declared.Zone.{Zone}
 use Rattle.run_io.specs.Fetches.{Files}
 use Rattle.run_io.specs.Told.{Told}
 use Rattle.unit_rules.specs.Memory.{Gives}
 use Rattle.unit_rules.specs.Limits.{most_bytes}
-use Rattle.run_cli.specs.Files.{Blames, BlamesFile, File, IsRead, IsRefusal, Reading, fault_in, fault_of, file_read, line_reading, plan_fault_for, plan_file, plan_reading, refusal, table_in, table_of}
-use Rattle.run_cli.specs.Loads.{Fetched, IsReason, LoadStops, Loads, MayRefuse, file_named}
-use Rattle.run_cli.specs.Statuses.{plan_number}
+use Rattle.run_cli.specs.Files.{AreInForce, Blames, BlamesFile, File, IsRead, IsRefusal, Reading, edits_files, edits_reading, fault_for, fault_in, fault_of, file_for, file_read, line_reading, plan_file, plan_reading, refusal, table_in, table_of}
+use Rattle.run_cli.specs.Loads.{Fetched, IsReason, LoadStops, Loads, MayRefuse, edits_read, file_named}
+use Rattle.run_cli.specs.Statuses.{edits_number, plan_number}
 use Rattle.run_cli.specs.declared.status.Status.{Status}
-use Rattle.run_cli.specs.declared.status.Status.TheVariants.{Memory}
+use Rattle.run_cli.specs.declared.status.Status.TheVariants.{Memory, TooLong}
 use Rattle.run_cli.proofs.ServeFacts.{IfSome-along, IfSome-both}
 
 -- nothing is in the way of the first files, so what is in the way of the later ones is in the way of all
@@ -88,54 +93,52 @@ Loads-all a b old mid new x y z h k = record {
   stopped = tt;
 }
 
--- a file that is judged in another way, but alike where files are told, is loaded alike
-judged-alike : (files : Files) (number : ℕ) (name : List ℕ) (judge other : Files → List ℕ → Option Status) → ((bytes : List ℕ) → judge files bytes ≡ other files bytes)
-    → refusal files (record { number = number; name = name; judge = judge } ∷ []) ≡ refusal files (record { number = number; name = name; judge = other } ∷ [])
-judged-alike files number name judge other alike = at (files name) refl
+-- files that are judged in another way, but alike where files are told, are loaded alike
+Loads-judged : {T : Type 0} (reads others : List File) (old new : Told Files) (result : Result T Status) → ((s : Status) → Blames old new reads s → Blames old new others s)
+    → IfSome old.holds (λ files. refusal files reads ≡ refusal files others) → Loads reads old new result → Loads others old new result
+Loads-judged {T} reads others old new result blames alike h = record { same = h.same; later = h.later; loaded = loaded result h.loaded; stopped = stopped result h.stopped }
   where
-    at : (there : Option (List ℕ)) → files name ≡ there
-        → refusal files (record { number = number; name = name; judge = judge } ∷ []) ≡ refusal files (record { number = number; name = name; judge = other } ∷ [])
-    at None is = rw is refl
-    at (Some bytes) is = long (nat_lt most_bytes (length bytes)) refl
-      where
-        long : (b : Bool) → nat_lt most_bytes (length bytes) ≡ b
-            → refusal files (record { number = number; name = name; judge = judge } ∷ []) ≡ refusal files (record { number = number; name = name; judge = other } ∷ [])
-        long true more = rw (is, more) refl
-        long false less = rw (is, less, alike bytes) refl
-
-pub Loads-alike : {T : Type 0} (number : ℕ) (name : List ℕ) (judge other : Files → List ℕ → Option Status) (old new : Told Files) (result : Result T Status)
-    → IfSome old.holds (λ files. (bytes : List ℕ) → judge files bytes ≡ other files bytes) → Loads (record { number = number; name = name; judge = judge } ∷ []) old new result
-    → Loads (record { number = number; name = name; judge = other } ∷ []) old new result
-Loads-alike {T} number name judge other old new result alike h = record { same = h.same; later = h.later; loaded = loaded result h.loaded; stopped = stopped result h.stopped }
-  where
-    loaded : (r : Result T Status) → IfOk r (λ t. IfSome old.holds (λ files. refusal files (record { number = number; name = name; judge = judge } ∷ []) ≡ None))
-        → IfOk r (λ t. IfSome old.holds (λ files. refusal files (record { number = number; name = name; judge = other } ∷ []) ≡ None))
-    loaded (Ok t) k = IfSome-both old.holds _ _ _ (λ files same none. sym (judged-alike files number name judge other same) ∙ none) alike k
+    loaded : (r : Result T Status) → IfOk r (λ t. IfSome old.holds (λ files. refusal files reads ≡ None)) → IfOk r (λ t. IfSome old.holds (λ files. refusal files others ≡ None))
+    loaded (Ok t) k = IfSome-both old.holds _ _ _ (λ files same none. sym same ∙ none) alike k
     loaded (Err s) k = tt
 
-    reason : (s : Status) → IsReason (record { number = number; name = name; judge = judge } ∷ []) old new s → IsReason (record { number = number; name = name; judge = other } ∷ []) old new s
+    reason : (s : Status) → IsReason reads old new s → IsReason others old new s
     reason s (inl rose) = inl rose
-    reason s (inr first) = inr (IfSome-both old.holds _ _ _ (λ files same is. sym (judged-alike files number name judge other same) ∙ is) alike first)
+    reason s (inr first) = inr (IfSome-both old.holds _ _ _ (λ files same is. sym same ∙ is) alike first)
 
-    stops : (s : Status) → LoadStops (record { number = number; name = name; judge = judge } ∷ []) old new s → LoadStops (record { number = number; name = name; judge = other } ∷ []) old new s
+    stops : (s : Status) → LoadStops reads old new s → LoadStops others old new s
     stops s (inl memory) = inl memory
-    stops s (inr refused) = inr (record { blames = refused.blames; reason = reason s refused.reason })
+    stops s (inr refused) = inr (record { blames = blames s refused.blames; reason = reason s refused.reason })
 
-    stopped : (r : Result T Status) → IfErr r (LoadStops (record { number = number; name = name; judge = judge } ∷ []) old new)
-        → IfErr r (LoadStops (record { number = number; name = name; judge = other } ∷ []) old new)
+    stopped : (r : Result T Status) → IfErr r (LoadStops reads old new) → IfErr r (LoadStops others old new)
     stopped (Ok t) k = tt
     stopped (Err s) k = stops s k
 
--- a plan file that was read for the line of a file is judged as that of the line's file
-plan-alike : (told : Option Files) (line_name : List ℕ) (line : LineView) → IsRead line_reading told line_name line
-    → IfSome told (λ files. (bytes : List ℕ) → fault_of ((plan_reading line).read bytes) ≡ plan_fault_for (table_in line_reading (files line_name)) bytes)
-plan-alike told line_name line at = IfSome-along told _ _ (λ files is bytes. rw is refl) at.same
+-- a file that is read for the line of a file has the fault that it has for that line
+fault-for : {T : Type 0} (number : ℕ) (reading : LineView → Reading T) (line_name name : List ℕ) (line : LineView) (files : Files) (o : Option (List ℕ)) → (reading line).number ≡ number
+    → table_in line_reading (files line_name) ≡ Some line → fault_in files (file_read (reading line) name) o ≡ fault_in files (file_for number reading line_name name) o
+fault-for number reading line_name name line files None is at = refl
+fault-for number reading line_name name line files (Some bytes) is at =
+    let judged : fault_of ((reading line).read bytes) ≡ fault_for reading (table_in line_reading (files line_name)) bytes = rw at refl in
+    λ k. if nat_lt most_bytes (length bytes) then Some (TooLong (is k)) else judged k
 
-pub Loads-plan : {T : Type 0} (line_name name : List ℕ) (line : LineView) (old mid new : Told Files) (result : Result T Status) → mid.holds ≡ old.holds → IsRead line_reading old.holds line_name line
-    → Loads (file_read (plan_reading line) name ∷ []) mid new result → Loads (plan_file line_name name ∷ []) mid new result
-Loads-plan line_name name line old mid new result same at h =
-    Loads-alike plan_number name (λ files bytes. fault_of ((plan_reading line).read bytes)) (λ files bytes. plan_fault_for (table_in line_reading (files line_name)) bytes) mid new result
-    (rw same (plan-alike old.holds line_name line at)) h
+-- the files of a plan and of edits that were read for the line of a file
+orders-alike : (line_name plan_name : List ℕ) (edits_name : Option (List ℕ)) (line : LineView) (files : Files) → table_in line_reading (files line_name) ≡ Some line
+    → refusal files (file_read (plan_reading line) plan_name ∷ edits_read line edits_name) ≡ refusal files (plan_file line_name plan_name ∷ edits_files line_name edits_name)
+orders-alike line_name plan_name None line files at = λ k. option_or (fault-for plan_number plan_reading line_name plan_name line files (files plan_name) refl at k) None
+orders-alike line_name plan_name (Some name) line files at = λ k.
+    option_or (fault-for plan_number plan_reading line_name plan_name line files (files plan_name) refl at k) (option_or (fault-for edits_number edits_reading line_name name line files (files name) refl at k) None)
+
+orders-blame : (line_name plan_name : List ℕ) (edits_name : Option (List ℕ)) (line : LineView) (old new : Told Files) (s : Status)
+    → Blames old new (file_read (plan_reading line) plan_name ∷ edits_read line edits_name) s → Blames old new (plan_file line_name plan_name ∷ edits_files line_name edits_name) s
+orders-blame line_name plan_name None line old new s h = h
+orders-blame line_name plan_name (Some name) line old new s h = h
+
+pub Loads-orders : {T : Type 0} (line_name plan_name : List ℕ) (edits_name : Option (List ℕ)) (line : LineView) (old mid new : Told Files) (result : Result T Status) → mid.holds ≡ old.holds
+    → IsRead line_reading old.holds line_name line → Loads (file_read (plan_reading line) plan_name ∷ edits_read line edits_name) mid new result
+    → Loads (plan_file line_name plan_name ∷ edits_files line_name edits_name) mid new result
+Loads-orders line_name plan_name edits_name line old mid new result same at h =
+    Loads-judged _ _ mid new result (orders-blame line_name plan_name edits_name line mid new) (rw same (IfSome-along old.holds _ _ (λ files is. orders-alike line_name plan_name edits_name line files is) at.same)) h
 
 -- bytes of a file that are not too many
 fault_in-short : (files : Files) (f : File) (bytes : List ℕ) → length bytes ≤ most_bytes → fault_in files f (Some bytes) ≡ f.judge files bytes
@@ -191,3 +194,8 @@ IsRead-given {T} reading name bytes told (Ok table) kept at (inr e) = record { k
     is_table : (files : Files) → files name ≡ Some bytes → table_in reading (files name) ≡ Some table
     is_table files there = rw there (ap table_of (sym e))
 IsRead-given reading name bytes told (Err s) kept at (inr e) = tt
+
+-- the zones of restrictions that a file of edits leaves in force lie on its line
+pub AreInForce-lie : (line : LineView) (name : Option (List ℕ)) (told : Option Files) (force : List (List ℕ × Zone)) → AreInForce line name told force → All (LiesOn line.length) (zones_of force)
+AreInForce-lie line None told force none = rw none (All-nil (LiesOn line.length))
+AreInForce-lie line (Some name) told force at = at.kept

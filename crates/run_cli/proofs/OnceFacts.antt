@@ -1,7 +1,8 @@
 -- That there is one answer at most.
-use Rattle.std.proofs.Common.{◌≡◌, ℕ, List, length, Option, Some, None, sym, ap, subst, ◌∙◌, inl, inr, arith}
+use Rattle.std.proofs.Common.{◌≡◌, ℕ, List, [], length, Option, Some, None, sym, ap, subst, ◌∙◌, inl, inr, arith}
 use Rattle.std.proofs.lemmas.Grind.{same_number_lists}
-use Rattle.case_rules.specs.Case.{plan_caps, train_rule}
+use Rattle.case_rules.specs.Case.{train_rule}
+use Rattle.incr_envelope.specs.Envelope.{caps_under}
 use Rattle.line_tables.specs.Line.{LineView}
 use Rattle.plan_tables.specs.Plan.{PlanView, empty_plan}
 use Rattle.report_text.specs.Texts.{list_text, reach_text}
@@ -11,11 +12,12 @@ use Rattle.run_io.specs.Fetches.{Files}
 use Rattle.run_rules.proofs.RunFacts.{runs_or_stalls, stalls_once}
 use Rattle.run_rules.specs.Runs.{AtMost}
 use Rattle.stock_tables.specs.Stock.{StockView}
+use Rattle.unit_rules.specs.declared.Zone.{Zone}
 use Rattle.unit_rules.specs.declared.Reach.TheVariants as reach
 use Rattle.run_cli.specs.Brakes.{IsBrakes}
 use Rattle.run_cli.specs.Envelope.{IsEnvelope}
-use Rattle.run_cli.specs.FileForms.{ByBoth, ByCase, ByLine, ByPlan, ByStock}
-use Rattle.run_cli.specs.Files.{CaseNames, line_reading, plan_reading, stock_reading, table_in}
+use Rattle.run_cli.specs.FileForms.{ByBoth, ByCase, ByEdits, CaseAnswer, ByLine, ByPlan, ByStock}
+use Rattle.run_cli.specs.Files.{CaseNames, edits_reading, line_reading, plan_reading, stock_reading, table_in}
 use Rattle.run_cli.specs.Plan.{IsTimetable, plan_answer}
 use Rattle.run_words.specs.declared.requests.Print.{Print}
 use Rattle.run_words.specs.declared.requests.Print.TheVariants as print
@@ -55,11 +57,16 @@ pub ByPlan-once : (line : LineView) (name : List ℕ) (files : Files) (next : Pl
 ByPlan-once line name files next once s r t u a b =
     once a.0 s r t u a.2 (subst (λ (q : PlanView). next q r u) (Some-same (table_in (plan_reading line) (files name)) b.0 a.0 b.1 a.1) b.2)
 
-pub ByCase-once : (names : CaseNames) (files : Files) (next : LineView → StockView → PlanView → Answer) → ((line : LineView) (stock : StockView) (plan : PlanView) → IsOnce (next line stock plan))
+ByEdits-once : (line : LineView) (name : Option (List ℕ)) (files : Files) (next : List (List ℕ × Zone) → Answer) → ((force : List (List ℕ × Zone)) → IsOnce (next force)) → IsOnce (ByEdits line name next files)
+ByEdits-once line None files next once s r t u a b = once [] s r t u a b
+ByEdits-once line (Some name) files next once s r t u a b =
+    once a.0 s r t u a.2 (subst (λ (q : List (List ℕ × Zone)). next q r u) (Some-same (table_in (edits_reading line) (files name)) b.0 a.0 b.1 a.1) b.2)
+
+pub ByCase-once : (names : CaseNames) (files : Files) (next : CaseAnswer) → ((line : LineView) (stock : StockView) (plan : PlanView) (force : List (List ℕ × Zone)) → IsOnce (next line stock plan force))
     → IsOnce (ByCase names next files)
 ByCase-once names files next once =
-    ByBoth-once names.line names.stock files (λ line stock. ByPlan line names.plan (next line stock) files)
-    (λ line stock. ByPlan-once line names.plan files (next line stock) (once line stock))
+    ByBoth-once names.line names.stock files (λ line stock. ByPlan line names.plan (λ plan. ByEdits line names.edits (next line stock plan) files) files)
+    (λ line stock. ByPlan-once line names.plan files (λ plan. ByEdits line names.edits (next line stock plan) files) (λ plan. ByEdits-once line names.edits files (next line stock plan) (once line stock plan)))
 
 -- two lists of which each is at most the other are one
 AtMost-both : (a b : List ℕ) (n : ℕ) → length a ≡ n → length b ≡ n → AtMost a b n → AtMost b a n → a ≡ b
@@ -70,34 +77,34 @@ pub IsBrakes-once : (table : LineView) (train : StockView) → IsOnce (IsBrakes 
 IsBrakes-once table train s r t u a b =
     let h = a.is_list in
     let k = b.is_list in
-    let list = AtMost-both a.list b.list (length (plan_caps table train empty_plan)) h.keeps.same_points k.keeps.same_points (k.greatest a.list h.keeps) (h.greatest b.list k.keeps) in
+    let list = AtMost-both a.list b.list (length (caps_under table train empty_plan [])) h.keeps.same_points k.keeps.same_points (k.greatest a.list h.keeps) (h.greatest b.list k.keeps) in
     record { one_status = a.is.status_is ∙ sym b.is.status_is; one_text = a.is.text_is ∙ ap list_text list ∙ sym b.is.text_is }
 
-pub IsEnvelope-once : (table : LineView) (train : StockView) (plan : PlanView) → IsOnce (IsEnvelope table train plan)
-IsEnvelope-once table train plan s r t u (inl a) (inl b) =
+pub IsEnvelope-once : (table : LineView) (train : StockView) (plan : PlanView) (force : List (List ℕ × Zone)) → IsOnce (IsEnvelope table train plan force)
+IsEnvelope-once table train plan force s r t u (inl a) (inl b) =
     let h = a.is_list in
     let k = b.is_list in
-    let list = AtMost-both a.list b.list (length (plan_caps table train plan)) h.run.same_points k.run.same_points (k.greatest a.list h.run) (h.greatest b.list k.run) in
+    let list = AtMost-both a.list b.list (length (caps_under table train plan force)) h.run.same_points k.run.same_points (k.greatest a.list h.run) (h.greatest b.list k.run) in
     record { one_status = a.is.status_is ∙ sym b.is.status_is; one_text = a.is.text_is ∙ ap list_text list ∙ sym b.is.text_is }
-IsEnvelope-once table train plan s r t u (inl a) (inr b) = absurd (runs_or_stalls (train_rule table train) (plan_caps table train plan) a.list b.point a.is_list.run b.is_stalled)
-IsEnvelope-once table train plan s r t u (inr a) (inl b) = absurd (runs_or_stalls (train_rule table train) (plan_caps table train plan) b.list a.point b.is_list.run a.is_stalled)
-IsEnvelope-once table train plan s r t u (inr a) (inr b) =
-    let point = stalls_once (train_rule table train) (plan_caps table train plan) a.point b.point a.is_stalled b.is_stalled in
+IsEnvelope-once table train plan force s r t u (inl a) (inr b) = absurd (runs_or_stalls (train_rule table train) (caps_under table train plan force) a.list b.point a.is_list.run b.is_stalled)
+IsEnvelope-once table train plan force s r t u (inr a) (inl b) = absurd (runs_or_stalls (train_rule table train) (caps_under table train plan force) b.list a.point b.is_list.run a.is_stalled)
+IsEnvelope-once table train plan force s r t u (inr a) (inr b) =
+    let point = stalls_once (train_rule table train) (caps_under table train plan force) a.point b.point a.is_stalled b.is_stalled in
     record {
       one_status = a.is.status_is ∙ ap (λ (k : ℕ). Stalled k) point ∙ sym b.is.status_is;
       one_text = a.is.text_is ∙ ap (λ (k : ℕ). reach_text (reach.Stalled k)) point ∙ sym b.is.text_is;
     }
 
-pub IsTimetable-once : (table : LineView) (train : StockView) (plan : PlanView) → IsOnce (IsTimetable table train plan)
-IsTimetable-once table train plan s r t u (inl a) (inl b) =
+pub IsTimetable-once : (table : LineView) (train : StockView) (plan : PlanView) (force : List (List ℕ × Zone)) → IsOnce (IsTimetable table train plan force)
+IsTimetable-once table train plan force s r t u (inl a) (inl b) =
     let h = a.is_list in
     let k = b.is_list in
-    let list = AtMost-both a.list b.list (length (plan_caps table train plan)) h.run.same_points k.run.same_points (k.greatest a.list h.run) (h.greatest b.list k.run) in
+    let list = AtMost-both a.list b.list (length (caps_under table train plan force)) h.run.same_points k.run.same_points (k.greatest a.list h.run) (h.greatest b.list k.run) in
     record { one_status = a.is.status_is ∙ sym b.is.status_is; one_text = a.is.text_is ∙ ap (λ e. timetable_text plan (rows_of plan table.length e)) list ∙ sym b.is.text_is }
-IsTimetable-once table train plan s r t u (inl a) (inr b) = absurd (runs_or_stalls (train_rule table train) (plan_caps table train plan) a.list b.point a.is_list.run b.is_stalled)
-IsTimetable-once table train plan s r t u (inr a) (inl b) = absurd (runs_or_stalls (train_rule table train) (plan_caps table train plan) b.list a.point b.is_list.run a.is_stalled)
-IsTimetable-once table train plan s r t u (inr a) (inr b) = IsEnvelope-once table train plan s r t u (inr a) (inr b)
+IsTimetable-once table train plan force s r t u (inl a) (inr b) = absurd (runs_or_stalls (train_rule table train) (caps_under table train plan force) a.list b.stall.point a.is_list.run b.stall.is_stalled)
+IsTimetable-once table train plan force s r t u (inr a) (inl b) = absurd (runs_or_stalls (train_rule table train) (caps_under table train plan force) b.list a.stall.point b.is_list.run a.stall.is_stalled)
+IsTimetable-once table train plan force s r t u (inr a) (inr b) = IsEnvelope-once table train plan force s r t u (inr a.stall) (inr b.stall)
 
-pub plan_answer-once : (kind : Print) (table : LineView) (train : StockView) (plan : PlanView) → IsOnce (plan_answer kind table train plan)
-plan_answer-once print.Envelope table train plan = IsEnvelope-once table train plan
-plan_answer-once print.Timetable table train plan = IsTimetable-once table train plan
+pub plan_answer-once : (kind : Print) (table : LineView) (train : StockView) (plan : PlanView) (force : List (List ℕ × Zone)) → IsOnce (plan_answer kind table train plan force)
+plan_answer-once print.Envelope table train plan force = IsEnvelope-once table train plan force
+plan_answer-once print.Timetable table train plan force = IsTimetable-once table train plan force

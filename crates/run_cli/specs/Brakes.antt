@@ -1,7 +1,8 @@
 -- What the form `brakes` means.
 use Rattle.std.specs.Prelude.{ℕ, ◌+◌, ◌*◌, List, [], Option}
 use Rattle.std.proofs.Common.{refl, arith}
-use Rattle.case_rules.specs.Case.{plan_caps, train_rule}
+use Rattle.case_rules.specs.Case.{train_rule}
+use Rattle.incr_envelope.specs.Envelope.{caps_under}
 use Rattle.line_tables.specs.Line.{LineView}
 use Rattle.plan_tables.specs.Plan.{empty_plan}
 use Rattle.report_text.specs.Texts.{list_text}
@@ -21,7 +22,7 @@ use Rattle.run_cli.specs.declared.status.Status.{Status}
 -- the braking list of the train on the line, where it stands at both ends
 pub record IsBrakes (line : LineView) (stock : StockView) (s : Status) (t : List ℕ) : Type 0 where
   pub list : List ℕ
-  pub is_list : IsBrakingList (train_rule line stock) (plan_caps line stock empty_plan) list
+  pub is_list : IsBrakingList (train_rule line stock) (caps_under line stock empty_plan []) list
   pub is : Is Done (list_text list) s t
 
 -- what the form means
@@ -32,7 +33,7 @@ brakes_meaning line_name stock_name =
 -- the report is what the form means
 pub brakes_means : (f : BrakesForm) (told : Option Files) (both : LineView × StockView) (r : ListReport)
     → AreTables f.line.now f.stock.now told both
-    → IsBrakingList (train_rule both.0 both.1) (plan_caps both.0 both.1 empty_plan) r.numbers.items
+    → IsBrakingList (train_rule both.0 both.1) (caps_under both.0 both.1 empty_plan []) r.numbers.items
     → IsMeant (brakes_meaning f.line.now f.stock.now) told Done (list_text r.numbers.items)
 brakes_means f told both r at is =
     train_meant f.line.now f.stock.now IsBrakes IsDone (λ cells. 33 * (cells + 1)) told both Done (list_text r.numbers.items) at

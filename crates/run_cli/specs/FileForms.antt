@@ -1,10 +1,11 @@
 -- Forms that read files alone, and what answers by the tables of these files.
-use Rattle.std.specs.Prelude.{ℕ, ◌≡◌, ◌≤◌, ◌⊎◌, false, List, [], ◌∷◌, Option, Some}
+use Rattle.std.specs.Prelude.{ℕ, ◌≡◌, ◌≤◌, ◌⊎◌, false, List, [], ◌∷◌, Option, None, Some}
 use Rattle.line_tables.specs.Line.{LineView}
 use Rattle.plan_tables.specs.Plan.{PlanView}
 use Rattle.stock_tables.specs.Stock.{StockView}
+use Rattle.unit_rules.specs.declared.Zone.{Zone}
 use Rattle.run_io.specs.Fetches.{Files}
-use Rattle.run_cli.specs.Files.{CaseNames, File, case_files, line_file, line_reading, most_cells, plan_reading, stock_file, stock_reading, table_in}
+use Rattle.run_cli.specs.Files.{CaseNames, File, case_files, edits_reading, line_file, line_reading, most_cells, plan_reading, stock_file, stock_reading, table_in}
 use Rattle.run_cli.specs.Meanings.{Answer, Is, Meaning}
 use Rattle.run_cli.specs.Statuses.{status_text}
 use Rattle.run_cli.specs.declared.status.Status.{Status}
@@ -72,12 +73,21 @@ abbrev pub ByPlan : LineView → List ℕ → (PlanView → Answer) → Files �
 ByPlan line name next files s t =
     (table : PlanView) × (table_in (plan_reading line) (files name) ≡ Some table) × next table s t
 
--- what answers by a line, a stock and a plan
-abbrev pub ByCase : CaseNames → (LineView → StockView → PlanView → Answer) → Files → Answer
+-- what answers by the restrictions of a file of edits that is accepted; where there is no such file, by none
+abbrev pub ByEdits : LineView → Option (List ℕ) → (List (List ℕ × Zone) → Answer) → Files → Answer
+ByEdits line None next files s t = next [] s t
+ByEdits line (Some name) next files s t =
+    (force : List (List ℕ × Zone)) × (table_in (edits_reading line) (files name) ≡ Some force) × next force s t
+
+-- what answers by a line, a stock, a plan and the restrictions in force
+abbrev pub CaseAnswer : Type 1
+CaseAnswer = LineView → StockView → PlanView → List (List ℕ × Zone) → Answer
+
+abbrev pub ByCase : CaseNames → CaseAnswer → Files → Answer
 ByCase names next files =
-    ByBoth names.line names.stock (λ line stock. ByPlan line names.plan (next line stock) files) files
+    ByBoth names.line names.stock
+    (λ line stock. ByPlan line names.plan (λ plan. ByEdits line names.edits (next line stock plan) files) files) files
 
 -- a form of a train on a line by a plan
-abbrev pub case_form : CaseNames → (LineView → StockView → PlanView → Answer) → (Status → Type 0)
-    → (Option Files → ℕ) → Meaning
+abbrev pub case_form : CaseNames → CaseAnswer → (Status → Type 0) → (Option Files → ℕ) → Meaning
 case_form names answers may_end steps = file_form (case_files names) (ByCase names answers) may_end (AtMost steps)

@@ -1,12 +1,12 @@
 -- That the reports of forms that read files alone are what these forms mean, and that their steps are allowed.
-use Rattle.std.proofs.Common.{◌≡◌, ◌≤◌, ℕ, List, Option, Some, None, refl, arith}
+use Rattle.std.proofs.Common.{◌≡◌, ◌≤◌, ℕ, List, Option, Some, None, refl, subst, arith}
 use Rattle.unit_rules.specs.Limits.{longest_line}
 use Rattle.line_tables.specs.Line.{LineView}
 use Rattle.run_io.specs.Fetches.{Files}
-use Rattle.plan_tables.specs.Plan.{PlanView}
 use Rattle.stock_tables.specs.Stock.{StockView}
-use Rattle.run_cli.specs.FileForms.{AtMost, case_form, file_form, line_form, stock_form, train_form}
-use Rattle.run_cli.specs.Files.{AreTables, CaseNames, File, IsCase, IsRead, line_reading, most_cells, stock_reading}
+use Rattle.unit_rules.specs.declared.Zone.{Zone}
+use Rattle.run_cli.specs.FileForms.{AtMost, ByEdits, CaseAnswer, case_form, file_form, line_form, stock_form, train_form}
+use Rattle.run_cli.specs.Files.{AreInForce, AreTables, CaseNames, File, IsCase, IsRead, line_reading, most_cells, stock_reading}
 use Rattle.run_cli.specs.Meanings.{Answer, Is, IsFileForm}
 use Rattle.run_cli.specs.Serves.{IsMeant}
 use Rattle.run_cli.specs.Statuses.{extent_of}
@@ -41,12 +41,19 @@ train_meant line_name stock_name answers may_end steps None both s t at h is end
 train_meant line_name stock_name answers may_end steps (Some files) both s t at h is ends =
     record { answers = (both.0, at.0.same, (both.1, at.1.same, h)); is_whole = is; may_end = ends }
 
-pub case_meant : (names : CaseNames) (answers : LineView → StockView → PlanView → Answer) (may_end : Status → Type 0) (steps : Option Files → ℕ)
+-- what answers by the restrictions in force, where these were read
+edits_meant : (line : LineView) (name : Option (List ℕ)) (files : Files) (force : List (List ℕ × Zone)) (answers : List (List ℕ × Zone) → Answer) (s : Status) (t : List ℕ)
+    → AreInForce line name (Some files) force → answers force s t → ByEdits line name answers files s t
+edits_meant line None files force answers s t none h = subst (λ (ps : List (List ℕ × Zone)). answers ps s t) none h
+edits_meant line (Some name) files force answers s t at h = (force, at.same, h)
+
+pub case_meant : (names : CaseNames) (answers : CaseAnswer) (may_end : Status → Type 0) (steps : Option Files → ℕ)
     (told : Option Files) (c : Case) (s : Status) (t : List ℕ) → IsCase names told c
-    → answers c.line c.stock c.plan s t → extent_of s ≡ whole → may_end s → IsMeant (case_form names answers may_end steps) told s t
+    → answers c.line c.stock c.plan c.force.pairs s t → extent_of s ≡ whole → may_end s → IsMeant (case_form names answers may_end steps) told s t
 case_meant names answers may_end steps None c s t at h is ends = record { answers = tt; is_whole = is; may_end = ends }
 case_meant names answers may_end steps (Some files) c s t at h is ends =
-    record { answers = (c.line, at.line.same, (c.stock, at.stock.same, (c.plan, at.plan.same, h))); is_whole = is; may_end = ends }
+    let by_edits = edits_meant c.line names.edits files c.force.pairs (answers c.line c.stock c.plan) s t at.force h in
+    record { answers = (c.line, at.line.same, (c.stock, at.stock.same, (c.plan, at.plan.same, by_edits))); is_whole = is; may_end = ends }
 
 -- a line that was read has no more cells than the line of its file, so no more steps are taken than by these
 pub cells_allow : (steps : ℕ → ℕ) (rises : (a b : ℕ) → a ≤ b → steps a ≤ steps b) (told : Option Files) (name : List ℕ) (line : LineView)

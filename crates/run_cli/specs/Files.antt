@@ -1,5 +1,5 @@
 -- The files that a form reads, one after another, and the first of them that is in the way.
-use Rattle.std.specs.Prelude.{ℕ, ◌≡◌, ◌⊎◌, List, [], ◌∷◌, length, nat_lt, if◌then◌else◌, Option, None, Some, Result, Ok, Err, IfSome}
+use Rattle.std.specs.Prelude.{ℕ, ◌≡◌, ◌⊎◌, List, [], ◌∷◌, length, nat_lt, if◌then◌else◌, Option, None, Some, Result, Ok, Err, IfSome, All}
 use Rattle.std.specs.Option.{option_or}
 use Rattle.unit_rules.specs.Limits.{longest_line, most_bytes}
 use Rattle.run_io.specs.Fetches.{Files, IsAbsent}
@@ -8,9 +8,13 @@ use Rattle.line_tables.specs.LineFile as line
 use Rattle.line_tables.specs.Line.{IsLine, LineView}
 use Rattle.plan_tables.specs.PlanFile as plan
 use Rattle.plan_tables.specs.Plan.{IsPlan, PlanLiesOn, PlanView}
+use Rattle.restrictions.specs.Edits.{restrictions_in}
+use Rattle.restrictions.specs.Force.{zones_of}
+use Rattle.unit_rules.specs.Zone.{LiesOn}
+use Rattle.unit_rules.specs.declared.Zone.{Zone}
 use Rattle.stock_tables.specs.StockFile as stock
 use Rattle.stock_tables.specs.Stock.{IsStock, StockView}
-use Rattle.run_cli.specs.Statuses.{line_number, line_status, plan_number, plan_status, stock_number, stock_status}
+use Rattle.run_cli.specs.Statuses.{edits_number, edits_status, line_number, line_status, plan_number, plan_status, stock_number, stock_status}
 use Rattle.run_cli.specs.declared.cases.Case.{Case}
 use Rattle.run_cli.specs.declared.status.Status.{Status}
 use Rattle.run_cli.specs.declared.status.Status.TheVariants.{ReadFault, Refused, TooLong}
@@ -114,31 +118,49 @@ plan_reading line = record {
   read = λ bytes. with_status plan_status (plan.read_as_plan line bytes);
 }
 
--- the fault of a plan file for a line that may not be there
-abbrev pub plan_fault_for : Option LineView → List ℕ → Option Status
-plan_fault_for None bytes = None
-plan_fault_for (Some line) bytes = fault_of ((plan_reading line).read bytes)
-
--- the plan file of that name, for the line of the file of the other name
-abbrev pub plan_file : List ℕ → List ℕ → File
-plan_file line_name name = record {
-  number = plan_number;
-  name = name;
-  judge = λ files bytes. plan_fault_for (table_in line_reading (files line_name)) bytes;
+-- files of edits, which are read for a line
+abbrev pub edits_reading : LineView → Reading (List (List ℕ × Zone))
+edits_reading line = record {
+  number = edits_number;
+  keeps = λ force. All (LiesOn line.length) (zones_of force);
+  read = λ bytes. with_status edits_status (restrictions_in line.length bytes);
 }
 
--- the names of the files of a case: a line, a stock and a plan
+-- the fault of a file that is read for a line which may not be there
+abbrev pub fault_for : {T : Type 0} → (LineView → Reading T) → Option LineView → List ℕ → Option Status
+fault_for reading None bytes = None
+fault_for reading (Some line) bytes = fault_of ((reading line).read bytes)
+
+-- the file of that number and name, which is read for the line of the file of the other name
+abbrev pub file_for : {T : Type 0} → ℕ → (LineView → Reading T) → List ℕ → List ℕ → File
+file_for number reading line_name name = record {
+  number = number;
+  name = name;
+  judge = λ files bytes. fault_for reading (table_in line_reading (files line_name)) bytes;
+}
+
+abbrev pub plan_file : List ℕ → List ℕ → File
+plan_file = file_for plan_number plan_reading
+
+-- the file of edits, if there is one
+abbrev pub edits_files : List ℕ → Option (List ℕ) → List File
+edits_files line_name None = []
+edits_files line_name (Some name) = file_for edits_number edits_reading line_name name ∷ []
+
+-- the names of the files of a case: a line, a stock and a plan, and edits if there are any
 pub record CaseNames : Type 0 where
   pub line : List ℕ
   pub stock : List ℕ
   pub plan : List ℕ
+  pub edits : Option (List ℕ)
 
-abbrev pub case_names : List ℕ → List ℕ → List ℕ → CaseNames
-case_names line stock plan = record { line = line; stock = stock; plan = plan }
+abbrev pub case_names : List ℕ → List ℕ → List ℕ → Option (List ℕ) → CaseNames
+case_names line stock plan edits = record { line = line; stock = stock; plan = plan; edits = edits }
 
 -- the files of a case, in the order in which they are read
 abbrev pub case_files : CaseNames → List File
-case_files names = line_file names.line ∷ stock_file names.stock ∷ plan_file names.line names.plan ∷ []
+case_files names =
+    line_file names.line ∷ stock_file names.stock ∷ plan_file names.line names.plan ∷ edits_files names.line names.edits
 
 -- a line and a stock are those of the files of these names
 abbrev pub AreTables : List ℕ → List ℕ → Option Files → LineView × StockView → Type 0
@@ -155,8 +177,14 @@ abbrev pub most_cells : Option Files → List ℕ → ℕ
 most_cells None name = longest_line
 most_cells (Some files) name = length_of (table_in line_reading (files name))
 
+-- the restrictions are those that the file of edits of that name leaves in force; where there is no such file, none
+abbrev pub AreInForce : LineView → Option (List ℕ) → Option Files → List (List ℕ × Zone) → Type 0
+AreInForce line None told force = force ≡ []
+AreInForce line (Some name) told force = IsRead (edits_reading line) told name force
+
 -- a case is that of the files of these names
 pub record IsCase (names : CaseNames) (told : Option Files) (c : Case) : Type 0 where
   pub line : IsRead line_reading told names.line c.line
   pub stock : IsRead stock_reading told names.stock c.stock
   pub plan : IsRead (plan_reading c.line) told names.plan c.plan
+  pub force : AreInForce c.line names.edits told c.force.pairs

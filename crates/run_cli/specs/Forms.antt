@@ -19,7 +19,7 @@ meaning_of (Some (Stock stock)) = stock_meaning stock
 meaning_of (Some (Rise line stock kmh)) = rise_meaning line stock kmh
 meaning_of (Some (Brakes line stock)) = brakes_meaning line stock
 meaning_of (Some (Envelope line stock)) = envelope_meaning line stock
-meaning_of (Some (Plan line stock plan kind)) = plan_meaning kind (case_names line stock plan)
+meaning_of (Some (Plan line stock plan kind edits)) = plan_meaning kind (case_names line stock plan edits)
 
 -- what the words of a command line mean
 abbrev pub meant_by : List (List ℕ) → Meaning

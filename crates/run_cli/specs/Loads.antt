@@ -1,9 +1,11 @@
 -- How the loading of files ends.
-use Rattle.std.specs.Prelude.{ℕ, ◌≡◌, ◌≤◌, ◌+◌, ◌⊎◌, List, length, Option, None, Some, Result, IfOk, IfErr, IfSome}
+use Rattle.std.specs.Prelude.{ℕ, ◌≡◌, ◌≤◌, ◌+◌, ◌⊎◌, List, [], ◌∷◌, length, Option, None, Some, option_map, Result, IfOk, IfErr, IfSome}
+use Rattle.std.proofs.Common.{Bor}
+use Rattle.line_tables.specs.Line.{LineView}
 use Rattle.run_io.specs.Fetches.{Files}
 use Rattle.run_io.specs.Told.{Rose, Told}
 use Rattle.unit_rules.specs.Limits.{most_bytes}
-use Rattle.run_cli.specs.Files.{Blames, File, IsRefusal, refusal}
+use Rattle.run_cli.specs.Files.{Blames, File, edits_reading, file_read, IsRefusal, refusal}
 use Rattle.run_cli.specs.declared.status.Status.{Status}
 use Rattle.run_cli.specs.declared.status.Status.TheVariants.{Memory, ReadFault}
 
@@ -44,3 +46,12 @@ file_named number name = record { number = number; name = name; judge = λ files
 -- a reader's fault is want of memory, or a refusal of the file of that number
 abbrev pub MayRefuse : {T : Type 0} → ℕ → Result T Status → Type 0
 MayRefuse number reading = IfErr reading (λ s. (s ≡ Memory) ⊎ IsRefusal number s)
+
+-- the name that may be given
+abbrev pub name_in : Option (Bor (List ℕ)) → Option (List ℕ)
+name_in name = option_map (λ s. s.now) name
+
+-- the file of edits that is read for a line, if there is one
+abbrev pub edits_read : LineView → Option (List ℕ) → List File
+edits_read line None = []
+edits_read line (Some name) = file_read (edits_reading line) name ∷ []

@@ -1,56 +1,69 @@
 -- What the form `plan` means: the fastest run of a train over a line by a plan, or its timetable; or the first point that
 -- the train can't reach.
-use Rattle.std.specs.Prelude.{ℕ, ◌+◌, ◌*◌, ◌≡◌, ◌≤◌, ◌⊎◌, List, [], Option, Some, None}
-use Rattle.std.proofs.Common.{arith, refl, inl}
+use Rattle.std.specs.Prelude.{ℕ, ◌+◌, ◌-◌, ◌*◌, ◌≡◌, ◌<◌, ◌≤◌, ◌⊎◌, List, [], Option, Some, None}
+use Rattle.std.proofs.Common.{arith, refl, inl, inr}
 use Rattle.allowances.specs.Arrivals.{arrival}
 use Rattle.allowances.specs.Laws.{IsNoLater}
 use Rattle.allowances.specs.Rows.{row_count, rows_of, section_count}
-use Rattle.case_rules.specs.Case.{plan_caps, train_rule}
+use Rattle.case_rules.specs.Case.{train_rule}
+use Rattle.incr_envelope.specs.Envelope.{EnvelopeView, caps_under}
 use Rattle.line_tables.specs.Line.{LineView}
 use Rattle.plan_tables.specs.Limits.{most_calls, most_sections}
 use Rattle.plan_tables.specs.Plan.{PlanView}
+use Rattle.report_text.specs.Texts.{reach_text}
 use Rattle.report_text.specs.Timetables.{timetable_text}
 use Rattle.run_io.specs.Fetches.{Files}
-use Rattle.run_rules.specs.Runs.{IsGreatestRun, IsRun}
+use Rattle.run_rules.specs.Runs.{IsEnvelopeTo, IsGreatestRun, Keeps}
 use Rattle.run_words.specs.declared.requests.PlanForm.{PlanForm}
 use Rattle.run_words.specs.declared.requests.Print.{Print}
 use Rattle.run_words.specs.declared.requests.Print.TheVariants as print
 use Rattle.stock_tables.specs.Stock.{StockView}
+use Rattle.unit_rules.specs.declared.Zone.{Zone}
 use Rattle.time_brackets.specs.Sums.{block_cells}
 use Rattle.unit_rules.specs.declared.Reach.TheVariants as reach
 use Rattle.run_cli.specs.Envelope.{IsEnvelope, ShowsStall, envelope_status, envelope_status-ends, envelope_status-whole, envelope_text}
-use Rattle.run_cli.specs.FileForms.{MayStall, case_form}
+use Rattle.run_cli.specs.FileForms.{CaseAnswer, MayStall, case_form}
 use Rattle.run_cli.specs.FileLaws.{case_meant, cells_allow}
 use Rattle.run_cli.specs.Files.{CaseNames, IsCase, case_names, line_reading, most_cells, plan_reading, table_in}
-use Rattle.run_cli.specs.Meanings.{Answer, Is, Meaning}
+use Rattle.run_cli.specs.Loads.{name_in}
+use Rattle.run_cli.specs.Meanings.{Is, Meaning}
 use Rattle.run_cli.specs.Serves.{IsMeant}
 use Rattle.run_cli.specs.Statuses.Extent.{whole}
 use Rattle.run_cli.specs.Statuses.{extent_of}
 use Rattle.run_cli.specs.declared.cases.Case.{Case}
-use Rattle.run_cli.specs.declared.report.EnvelopeReport.{EnvelopeReport}
 use Rattle.run_cli.specs.declared.report.PlanReport.{PlanReport}
-use Rattle.run_cli.specs.declared.report.PlanReport.TheVariants.{Speeds, Times}
-use Rattle.run_cli.specs.declared.status.Status.TheVariants.{Done}
+use Rattle.run_cli.specs.declared.report.PlanReport.TheVariants.{Speeds, Stall, Times}
+use Rattle.run_cli.specs.declared.status.Status.TheVariants.{Done, Stalled}
 use Rattle.run_cli.specs.declared.status.Status.{Status}
 
--- no run of the train on the line by the plan comes to a point sooner than e does, by either end of its arrival
-abbrev pub NoneIsSooner : LineView → StockView → PlanView → List ℕ → Type 0
-NoneIsSooner line stock plan e = (q : List ℕ) → IsRun (train_rule line stock) (plan_caps line stock plan) q
-    → (i : ℕ) → i ≤ line.length → IsNoLater (arrival plan e i) (arrival plan q i)
+-- no train on the line by the plan, under the restrictions in force, that gets to the last of the first `points` points comes to
+-- one of them sooner than e does, by either end of its arrival
+abbrev pub NoneIsSooner : LineView → StockView → PlanView → List (List ℕ × Zone) → List ℕ → ℕ → Type 0
+NoneIsSooner line stock plan force e points =
+    (q : List ℕ) → Keeps (train_rule line stock) (caps_under line stock plan force) q (points - 1)
+    → (i : ℕ) → i < points → IsNoLater (arrival plan e i) (arrival plan q i)
 
--- the timetable of the greatest run of the train on the line by the plan
-pub record ShowsTimes (line : LineView) (stock : StockView) (plan : PlanView) (s : Status) (t : List ℕ) : Type 0 where
+-- the timetable of the greatest run of the train on the line by the plan, under the restrictions in force
+pub record ShowsTimes (line : LineView) (stock : StockView) (plan : PlanView) (force : List (List ℕ × Zone)) (s : Status) (t : List ℕ) : Type 0 where
   pub list : List ℕ
-  pub is_list : IsGreatestRun (train_rule line stock) (plan_caps line stock plan) list
-  pub soonest : NoneIsSooner line stock plan list
+  pub is_list : IsGreatestRun (train_rule line stock) (caps_under line stock plan force) list
+  pub soonest : NoneIsSooner line stock plan force list (line.length + 1)
   pub is : Is Done (timetable_text plan (rows_of plan line.length list)) s t
 
+-- the point at which the train is stalled, where no train comes to a point before it sooner than that of the envelope up to
+-- there
+pub record ShowsStalledTimes (line : LineView) (stock : StockView) (plan : PlanView) (force : List (List ℕ × Zone)) (s : Status) (t : List ℕ) : Type 0 where
+  pub list : List ℕ
+  pub stall : ShowsStall line stock plan force s t
+  pub is_list : IsEnvelopeTo (train_rule line stock) (caps_under line stock plan force) list stall.point
+  pub soonest : NoneIsSooner line stock plan force list stall.point
+
 -- that timetable, or the train's stall
-abbrev pub IsTimetable : LineView → StockView → PlanView → Answer
-IsTimetable line stock plan s t = ShowsTimes line stock plan s t ⊎ ShowsStall line stock plan s t
+abbrev pub IsTimetable : CaseAnswer
+IsTimetable line stock plan force s t = ShowsTimes line stock plan force s t ⊎ ShowsStalledTimes line stock plan force s t
 
 -- what answers, by what is asked for
-abbrev pub plan_answer : Print → LineView → StockView → PlanView → Answer
+abbrev pub plan_answer : Print → CaseAnswer
 plan_answer print.Envelope = IsEnvelope
 plan_answer print.Timetable = IsTimetable
 
@@ -93,21 +106,24 @@ plan_meaning kind names = case_form names (plan_answer kind) MayStall (plan_step
 
 -- the names of the files of such a form
 abbrev pub names_of : PlanForm → CaseNames
-names_of f = case_names f.line.now f.stock.now f.plan.now
+names_of f = case_names f.line.now f.stock.now f.plan.now (name_in f.edits)
 
 -- the text of what was found, and the status under which it is written
 abbrev pub found_text : PlanReport → List ℕ
 found_text (Speeds r) = envelope_text r.speeds.items r.reach
-found_text (Times r) = timetable_text r.plan r.rows.items
+found_text (Stall k) = reach_text (reach.Stalled k)
+found_text (Times r) = timetable_text r.envelope.plan r.rows.items
 
 abbrev pub found_status : PlanReport → Status
 found_status (Speeds r) = envelope_status r.reach
+found_status (Stall k) = Stalled k
 found_status (Times r) = Done
 
--- the timetable by a plan of an envelope that goes over the whole line of that length, or else the envelope's stall
-abbrev pub IsTimed : PlanView → ℕ → EnvelopeReport → PlanReport → Type 0
-IsTimed plan length e (Speeds r) = (r ≡ e) × ((k : ℕ) × (e.reach ≡ reach.Stalled k))
-IsTimed plan length e (Times r) = (e.reach ≡ reach.Whole) × (r.plan ≡ plan) × (r.rows.items ≡ rows_of plan length e.speeds.items)
+-- the timetable of an envelope that goes over the whole line, or else its stall
+abbrev pub IsTimed : EnvelopeView → PlanReport → Type 0
+IsTimed e (Speeds r) = ⊥
+IsTimed e (Stall k) = e.reach ≡ reach.Stalled k
+IsTimed e (Times r) = (e.reach ≡ reach.Whole) × (r.envelope ≡ e) × (r.rows.items ≡ rows_of e.plan e.line.length e.speeds)
 
 -- how many steps a case takes, by what is asked for
 abbrev pub case_steps : Print → Case → ℕ
@@ -117,15 +133,17 @@ case_steps print.Timetable c =
 
 found-whole : (r : PlanReport) → extent_of (found_status r) ≡ whole
 found-whole (Speeds r) = envelope_status-whole r.reach
+found-whole (Stall k) = refl
 found-whole (Times r) = refl
 
 found-ends : (r : PlanReport) → MayStall (found_status r)
 found-ends (Speeds r) = envelope_status-ends r.reach
+found-ends (Stall k) = inr (k, refl)
 found-ends (Times r) = inl refl
 
 -- the report is what the form means
 pub plan_means : (f : PlanForm) (told : Option Files) (c : Case) (r : PlanReport) → IsCase (names_of f) told c
-    → plan_answer f.print c.line c.stock c.plan (found_status r) (found_text r)
+    → plan_answer f.print c.line c.stock c.plan c.force.pairs (found_status r) (found_text r)
     → IsMeant (plan_meaning f.print (names_of f)) told (found_status r) (found_text r)
 plan_means f told c r at is =
     case_meant (names_of f) (plan_answer f.print) MayStall (plan_steps f.print (names_of f)) told c (found_status r) (found_text r) at is

@@ -8,13 +8,16 @@ use Rattle.plan_tables.specs.PlanFile as plan
 use Rattle.plan_tables.specs.Plan.{PlanView}
 use Rattle.plan_tables.specs.declared.PlanFault.{PlanFault}
 use Rattle.plan_tables.specs.declared.PlanFault.TheVariants as plan_fault
+use Rattle.restrictions.specs.Edits.{restrictions_in}
+use Rattle.restrictions.specs.declared.edits.EditsFault.{EditsFault}
+use Rattle.restrictions.specs.declared.edits.EditsFault.TheVariants as edits_fault
 use Rattle.stock_tables.specs.StockFile as stock
 use Rattle.stock_tables.specs.Stock.{StockView}
 use Rattle.stock_tables.specs.declared.StockFault.{StockFault}
 use Rattle.stock_tables.specs.declared.StockFault.TheVariants as stock_fault
-use Rattle.run_cli.specs.Files.{line_reading, plan_reading, stock_reading, with_status}
+use Rattle.run_cli.specs.Files.{edits_reading, line_reading, plan_reading, stock_reading, with_status}
 use Rattle.run_cli.specs.Loads.{MayRefuse}
-use Rattle.run_cli.specs.Statuses.{line_number, line_status, plan_number, plan_status, stock_number, stock_status}
+use Rattle.run_cli.specs.Statuses.{edits_number, edits_status, line_number, line_status, plan_number, plan_status, stock_number, stock_status}
 
 line_refused : (r : Result LineView LineFault) → MayRefuse line_number (with_status line_status r)
 line_refused (Ok table) = tt
@@ -42,3 +45,11 @@ plan_refused (Err (plan_fault.Bad place rule)) = inr (inl (_, (_, refl)))
 
 pub plan_refuses : (line : LineView) (bytes : List ℕ) → MayRefuse (plan_reading line).number ((plan_reading line).read bytes)
 plan_refuses line bytes = plan_refused (plan.read_as_plan line bytes)
+
+edits_refused : {T : Type 0} (r : Result T EditsFault) → MayRefuse edits_number (with_status edits_status r)
+edits_refused (Ok table) = tt
+edits_refused (Err edits_fault.Memory) = inl refl
+edits_refused (Err (edits_fault.Bad place code)) = inr (inl (_, (_, refl)))
+
+pub edits_refuses : (line : LineView) (bytes : List ℕ) → MayRefuse (edits_reading line).number ((edits_reading line).read bytes)
+edits_refuses line bytes = edits_refused (restrictions_in line.length bytes)

@@ -5,6 +5,8 @@ use Rattle.line_tables.specs.declared.LineFault.{LineFault}
 use Rattle.line_tables.specs.declared.LineFault.TheVariants as line
 use Rattle.plan_tables.specs.declared.PlanFault.{PlanFault}
 use Rattle.plan_tables.specs.declared.PlanFault.TheVariants as plan
+use Rattle.restrictions.specs.declared.edits.EditsFault.{EditsFault}
+use Rattle.restrictions.specs.declared.edits.EditsFault.TheVariants as edits
 use Rattle.stock_tables.specs.Rules.{brake_law, effort_key, effort_law}
 use Rattle.stock_tables.specs.declared.StockFault.{StockFault}
 use Rattle.stock_tables.specs.declared.StockFault.TheVariants as stock
@@ -20,7 +22,7 @@ status_text (NotValid rule point) = codes "not valid " ++ decimal rule ++ codes 
 status_text (TooLong file) = codes "too long " ++ decimal file ++ codes "\n"
 status_text _ = []
 
--- the numbers of line, stock and plan files among the files of all forms
+-- the numbers of line, stock, plan and edits files among the files of all forms
 abbrev pub line_number : ℕ
 line_number = 1
 
@@ -29,6 +31,9 @@ stock_number = 2
 
 abbrev pub plan_number : ℕ
 plan_number = 3
+
+abbrev pub edits_number : ℕ
+edits_number = 4
 
 -- where the line of a file is missing, place and rule are 0
 abbrev pub line_status : LineFault → Status
@@ -50,6 +55,11 @@ stock_status stock.Memory = Memory
 abbrev pub plan_status : PlanFault → Status
 plan_status (plan.Bad place rule) = Refused plan_number place rule
 plan_status plan.Memory = Memory
+
+-- the places of an edits file are its lines, and the rules are the codes of edits
+abbrev pub edits_status : EditsFault → Status
+edits_status (edits.Bad place code) = Refused edits_number place code
+edits_status edits.Memory = Memory
 
 -- what a run has written that ends by a status: its whole text; what stood when a fault of reading or want of memory
 -- stopped it; or a front of its text, at a fault of the sink

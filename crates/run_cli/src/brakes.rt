@@ -1,7 +1,8 @@
 //! The form `brakes`: the braking list of a train on a line.
 
-ghost use Rattle.std.specs.Prelude.{◌≡◌, ◌≤◌, ◌+◌, ◌*◌, Some, IfOk, OnOk, OnErr};
-ghost use Rattle.case_rules.specs.Case.{plan_caps, train_rule};
+ghost use Rattle.std.specs.Prelude.{◌≡◌, ◌≤◌, ◌+◌, ◌*◌, [], Some, IfOk, OnOk, OnErr};
+ghost use Rattle.case_rules.specs.Case.{train_rule};
+ghost use Rattle.incr_envelope.specs.Envelope.{caps_under};
 ghost use Rattle.plan_tables.specs.Plan.{empty_plan};
 ghost use Rattle.run_cli.specs.Brakes.{brakes_allows, brakes_means};
 ghost use Rattle.run_cli.specs.FileLaws.{alone};
@@ -15,10 +16,10 @@ use crate::Status;
 use crate::files::load_both;
 use crate::form::Form;
 use crate::report::ListReport;
-use crate::walks::braking_list;
-use case_rules::{plan_limits, rule_on};
+use incr_envelope::braking_list;
 use line_tables::Line;
 use plan_tables::Plan;
+use restrictions::InForce;
 use run_io::Shelf;
 use run_words::BrakesForm;
 use std::alloc::Global;
@@ -36,7 +37,7 @@ impl<'a> Form for BrakesForm<'a> {
     ghost are = { λ f. AreTables f.line.now f.stock.now };
 
     ghost right = { λ f both r.
-        IsBrakingList (train_rule both.0 both.1) (plan_caps both.0 both.1 empty_plan) r.numbers.items };
+        IsBrakingList (train_rule both.0 both.1) (caps_under both.0 both.1 empty_plan []) r.numbers.items };
 
     ghost cost = { λ f both. 33 * (both.0.length + 1) };
 
@@ -51,9 +52,14 @@ impl<'a> Form for BrakesForm<'a> {
         steps: &mut Steps<L>,
     ) -> Result<ListReport, Memory> {
         let (line, stock) = both;
-        let limits = plan_limits(alloc, &line, &stock, &Plan::new(alloc))?;
-        let rule = rule_on(alloc, &line, stock)?;
-        let numbers = braking_list(alloc, &rule, &limits, steps)?;
+        let numbers = braking_list(
+            alloc,
+            &line,
+            stock,
+            &Plan::new(alloc),
+            &InForce::new(alloc),
+            steps,
+        )?;
         Ok(ListReport { numbers })
     }
 

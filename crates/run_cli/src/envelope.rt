@@ -1,8 +1,9 @@
 //! The form `envelope`: the fastest run of a train over a line, or the point at which it is
 //! stalled.
 
-ghost use Rattle.std.specs.Prelude.{◌≡◌, ◌≤◌, ◌+◌, ◌*◌, Some, IfOk, OnOk, OnErr};
-ghost use Rattle.case_rules.specs.Case.{plan_caps, train_rule};
+ghost use Rattle.std.specs.Prelude.{◌≡◌, ◌≤◌, ◌+◌, ◌*◌, [], Some, IfOk, OnOk, OnErr};
+ghost use Rattle.case_rules.specs.Case.{train_rule};
+ghost use Rattle.incr_envelope.specs.Envelope.{caps_under};
 ghost use Rattle.plan_tables.specs.Plan.{empty_plan};
 ghost use Rattle.run_cli.specs.Envelope.{envelope_allows, envelope_means};
 ghost use Rattle.run_cli.specs.FileLaws.{alone};
@@ -15,10 +16,10 @@ ghost use Rattle.run_words.specs.Requests.{envelope_view};
 use crate::Status;
 use crate::files::load_both;
 use crate::form::Form;
-use crate::report::EnvelopeReport;
-use crate::walks::envelope_by;
+use incr_envelope::{Drive, drive};
 use line_tables::Line;
 use plan_tables::Plan;
+use restrictions::InForce;
 use run_io::Shelf;
 use run_words::EnvelopeForm;
 use std::alloc::Global;
@@ -29,14 +30,14 @@ use unit_rules::{Memory, Steps};
 impl<'a> Form for EnvelopeForm<'a> {
     type Tables = (Line, Stock);
 
-    type Report = EnvelopeReport;
+    type Report = Drive;
 
     ghost request = { envelope_view };
 
     ghost are = { λ f. AreTables f.line.now f.stock.now };
 
     ghost right = { λ f both r.
-        ReachesAs (train_rule both.0 both.1) (plan_caps both.0 both.1 empty_plan) r.speeds.items r.reach };
+        ReachesAs (train_rule both.0 both.1) (caps_under both.0 both.1 empty_plan []) r.speeds.items r.reach };
 
     ghost cost = { λ f both. 33 * (both.0.length + 1) + both.0.length };
 
@@ -49,9 +50,16 @@ impl<'a> Form for EnvelopeForm<'a> {
         alloc: Global,
         both: (Line, Stock),
         steps: &mut Steps<L>,
-    ) -> Result<EnvelopeReport, Memory> {
+    ) -> Result<Drive, Memory> {
         let (line, stock) = both;
-        envelope_by(alloc, &line, stock, &Plan::new(alloc), steps)
+        drive(
+            alloc,
+            &line,
+            stock,
+            &Plan::new(alloc),
+            &InForce::new(alloc),
+            steps,
+        )
     }
 
     ghost files_alone = { λ f. alone _ _ _ _ };

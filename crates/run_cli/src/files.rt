@@ -1,17 +1,21 @@
 //! The files that a form reads: fetched by name, and read by the reader of their kind.
 
-ghost use Rattle.std.specs.Prelude.{◌≡◌, ◌≤◌, ◌∷◌, ℕ, List, [], Err, IfOk};
-ghost use Rattle.run_cli.specs.Files.{IsCase, IsRead, Reading, case_files, case_names, file_read, line_file, line_reading, plan_reading, stock_file, stock_reading};
-ghost use Rattle.run_cli.specs.Loads.{AsksOnce, Fetched, Loads, MayRefuse, file_named};
-ghost use Rattle.run_cli.specs.ReaderLaws.{line_refuses, plan_refuses, stock_refuses};
+ghost use Rattle.std.specs.Prelude.{◌≡◌, ◌≤◌, ◌∷◌, ℕ, List, [], Err, IfOk, None, Some};
+ghost use Rattle.run_cli.specs.Files.{AreInForce, IsCase, IsRead, Reading, case_files, edits_reading, file_read, line_file, line_reading, plan_reading, stock_file, stock_reading};
+ghost use Rattle.run_cli.specs.Loads.{AsksOnce, Fetched, Loads, MayRefuse, edits_read, file_named, name_in};
+ghost use Rattle.run_cli.specs.Plan.{names_of};
+ghost use Rattle.run_cli.specs.ReaderLaws.{edits_refuses, line_refuses, plan_refuses, stock_refuses};
 ghost use Rattle.run_cli.specs.declared.status.Status.TheVariants.{Memory as NoMemory};
 ghost use Rattle.unit_rules.specs.Memory.{Gives};
 
 use crate::Status;
 use crate::cases::Case;
+use crate::edits::Restrictions;
 use line_tables::{Line, read_line};
 use plan_tables::{Plan, read_plan};
+use restrictions::{InForce, read_edits};
 use run_io::{Fetch, Shelf};
+use run_words::PlanForm;
 use std::alloc::Global;
 use stock_tables::{Stock, read_stock};
 use unit_rules::MOST_BYTES;
@@ -24,6 +28,9 @@ pub(crate) const STOCK_FILE: u32 = 2;
 
 /// The number of plan files.
 pub(crate) const PLAN_FILE: u32 = 3;
+
+/// The number of edits files.
+pub(crate) const EDITS_FILE: u32 = 4;
 
 /// A reader of one kind of file.
 pub(crate) trait Reader {
@@ -108,24 +115,93 @@ impl<'a> Reader for PlanReader<'a> {
     ghost refuses = { λ r. plan_refuses r.line.now };
 }
 
-// The case of the files of these names, the line file first, and then the stock file.
+/// The reader of the edits files of a line.
+#[derive(Drop)]
+pub(crate) struct EditsReader<'a> {
+    line: &'a Line,
+}
+
+impl<'a> Reader for EditsReader<'a> {
+    type Table = Restrictions;
+
+    ghost reading = { λ r. edits_reading r.line.now };
+
+    fn number(&self) -> u32 {
+        EDITS_FILE
+    }
+
+    fn read(&self, alloc: Global, bytes: &[u8]) -> Result<Restrictions, Status> {
+        let force = read_edits(alloc, bytes, self.line.length())?;
+        Ok(Restrictions::of(force))
+    }
+
+    ghost refuses = { λ r. edits_refuses r.line.now };
+}
+
+// The case of the files of these names, the line file first, then the stock file, the plan file and
+// the edits file, if there is one.
 pub(crate) fn load_case<S: Shelf>(
     alloc: Global,
     shelf: &mut S,
-    line_name: &str,
-    stock_name: &str,
-    plan_name: &str,
+    form: &PlanForm<'_>,
 ) -> Result<Case, Status>
-    ensures case { IfOk result
-        (IsCase (case_names line_name.now stock_name.now plan_name.now) (S.told shelf.old).holds) }
-    ensures loads { Loads (case_files (case_names line_name.now stock_name.now plan_name.now))
+    ensures case { IfOk result (IsCase (names_of form.now) (S.told shelf.old).holds) }
+    ensures loads { Loads (case_files (names_of form.now)) (S.told shelf.old) (S.told shelf.new) result }
+    ensures asks { AsksOnce (case_files (names_of form.now)) (S.asked shelf.old) (S.asked shelf.new) }
+{
+    let (line, stock) = load_both(alloc, shelf, form.line, form.stock)?;
+    let (plan, force) = load_orders(alloc, shelf, &line, form.plan, form.edits)?;
+    Ok(Case {
+        line,
+        stock,
+        plan,
+        force,
+    })
+}
+
+// The plan and the restrictions of the files of these names, for a line, the plan file first.
+fn load_orders<S: Shelf>(
+    alloc: Global,
+    shelf: &mut S,
+    line: &Line,
+    plan_name: &str,
+    edits_name: Option<&str>,
+) -> Result<(Plan, InForce), Status>
+    ensures plan { IfOk result (λ both.
+        IsRead (plan_reading line.now) (S.told shelf.old).holds plan_name.now both.0) }
+    ensures force { IfOk result (λ both.
+        AreInForce line.now (name_in edits_name.entry) (S.told shelf.old).holds both.1.pairs) }
+    ensures loads { Loads (file_read (plan_reading line.now) plan_name.now
+        ∷ edits_read line.now (name_in edits_name.entry)) (S.told shelf.old) (S.told shelf.new) result }
+    ensures asks { AsksOnce (file_read (plan_reading line.now) plan_name.now
+        ∷ edits_read line.now (name_in edits_name.entry)) (S.asked shelf.old) (S.asked shelf.new) }
+{
+    let plan = load_file(alloc, shelf, &PlanReader { line }, plan_name)?;
+    let force = load_edits(alloc, shelf, line, edits_name)?;
+    Ok((plan, force))
+}
+
+// The restrictions of the edits file of that name, for a line; without a name there are none.
+fn load_edits<S: Shelf>(
+    alloc: Global,
+    shelf: &mut S,
+    line: &Line,
+    name: Option<&str>,
+) -> Result<InForce, Status>
+    ensures force { IfOk result (λ force.
+        AreInForce line.now (name_in name.entry) (S.told shelf.old).holds force.pairs) }
+    ensures loads { Loads (edits_read line.now (name_in name.entry))
         (S.told shelf.old) (S.told shelf.new) result }
-    ensures asks { AsksOnce (case_files (case_names line_name.now stock_name.now plan_name.now))
+    ensures asks { AsksOnce (edits_read line.now (name_in name.entry))
         (S.asked shelf.old) (S.asked shelf.new) }
 {
-    let (line, stock) = load_both(alloc, shelf, line_name, stock_name)?;
-    let plan = load_file(alloc, shelf, &PlanReader { line: &line }, plan_name)?;
-    Ok(Case { line, stock, plan })
+    match name {
+        None => Ok(InForce::new(alloc)),
+        Some(name) => {
+            let restrictions = load_file(alloc, shelf, &EditsReader { line }, name)?;
+            Ok(restrictions.into_force())
+        }
+    }
 }
 
 // The line and the stock of the files of these names, the line file first.

@@ -12,6 +12,7 @@ ghost use Rattle.run_words.specs.Requests.{view};
 mod brakes;
 mod caps;
 mod cases;
+mod edits;
 mod envelope;
 mod files;
 mod form;
@@ -22,7 +23,6 @@ mod rise_report;
 mod status;
 mod stock;
 mod timetable_report;
-mod walks;
 
 use crate::form::{refuse, serve};
 use run_io::{Shelf, Sink, Source};

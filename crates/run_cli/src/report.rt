@@ -9,6 +9,7 @@ ghost use Rattle.run_cli.specs.declared.status.Status.TheVariants.{Done};
 use crate::Status;
 use crate::form::Report;
 use crate::timetable_report::TimetableReport;
+use incr_envelope::Drive;
 use report_text::{write_bands, write_list, write_reach, write_timetable};
 use run_io::{Failed, Sink};
 use std::sync::ledger::Ledger;
@@ -59,15 +60,7 @@ impl Report for StockReport {
     }
 }
 
-// How far a train gets, and its greatest squared speeds by point, in (0.01 km/h)²; those from a
-// stalled point on mean nothing.
-#[derive(Drop)]
-pub(crate) struct EnvelopeReport {
-    pub(crate) reach: Reach,
-    pub(crate) speeds: Vec<u32>,
-}
-
-impl Report for EnvelopeReport {
+impl Report for Drive {
     ghost text = { λ r. envelope_text r.speeds.items r.reach };
 
     ghost ending = { λ r. envelope_status r.reach };
@@ -89,10 +82,12 @@ impl Report for EnvelopeReport {
     }
 }
 
-// What a plan was found to give: the speeds of its run, or their stall; or the times of its calls.
+// What a plan was found to give: the speeds of its run, or their stall; or the times of its calls, or
+// the point at which it is stalled.
 #[derive(Drop)]
 pub(crate) enum PlanReport {
-    Speeds(EnvelopeReport),
+    Speeds(Drive),
+    Stall(u32),
     Times(TimetableReport),
 }
 
@@ -105,14 +100,16 @@ impl Report for PlanReport {
 
     fn write<K: Sink, L: Ledger>(&self, out: &mut K, steps: &mut Steps<L>) -> Result<(), Failed> {
         match self {
-            PlanReport::Speeds(report) => report.write(out, steps),
-            PlanReport::Times(report) => write_timetable(out, &report.rows, &report.plan),
+            PlanReport::Speeds(drive) => drive.write(out, steps),
+            PlanReport::Stall(k) => write_reach(out, Reach::Stalled { k: *k }),
+            PlanReport::Times(report) => write_timetable(out, &report.rows, report.envelope.plan()),
         }
     }
 
     fn status(&self) -> Status {
         match self {
-            PlanReport::Speeds(report) => report.status(),
+            PlanReport::Speeds(drive) => drive.status(),
+            PlanReport::Stall(k) => Status::Stalled { point: *k },
             PlanReport::Times(_) => Status::Done,
         }
     }

@@ -2,12 +2,13 @@
 
 ghost use Rattle.std.specs.Prelude.{◌≡◌, ◌++◌, []};
 ghost use Rattle.run_cli.specs.Exits.{exit_of};
-ghost use Rattle.run_cli.specs.Statuses.{law_rule, line_status, plan_status, status_text, stock_status};
+ghost use Rattle.run_cli.specs.Statuses.{edits_status, law_rule, line_status, plan_status, status_text, stock_status};
 ghost use Rattle.run_cli.specs.declared.status.Status.TheVariants.{Memory as NoMemory, WriteFault};
 
-use crate::files::{LINE_FILE, PLAN_FILE, STOCK_FILE};
+use crate::files::{EDITS_FILE, LINE_FILE, PLAN_FILE, STOCK_FILE};
 use line_tables::LineFault;
 use plan_tables::PlanFault;
+use restrictions::EditsFault;
 use run_io::{Block, Failed};
 use stock_tables::{BRAKE_LAW, EFFORT_KEY, EFFORT_LAW, StockFault};
 use unit_rules::Memory;
@@ -164,6 +165,21 @@ impl From<PlanFault> for Status {
                 rule,
             },
             PlanFault::Memory => Status::Memory,
+        }
+    }
+}
+
+impl From<EditsFault> for Status {
+    ghost from_gives = { λ e s. s ≡ edits_status e };
+
+    fn from(fault: EditsFault) -> Status {
+        match fault {
+            EditsFault::Bad { place, code } => Status::Refused {
+                file: EDITS_FILE,
+                place,
+                rule: code,
+            },
+            EditsFault::Memory => Status::Memory,
         }
     }
 }

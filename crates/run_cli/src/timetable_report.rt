@@ -4,12 +4,12 @@ ghost use Rattle.std.specs.Prelude.{All};
 ghost use Rattle.report_text.specs.Timetables.{IsCalled};
 
 use allowances::Row;
-use plan_tables::Plan;
+use incr_envelope::Envelope;
 
-/// The rows of a timetable, and the plan whose calls they are.
+/// The rows of a timetable, and the envelope with the plan whose calls they are.
 #[derive(Drop)]
 pub(crate) struct TimetableReport {
     pub(crate) rows: Vec<Row>,
-    pub(crate) plan: Plan,
-    pub(crate) ghost called: { All (IsCalled plan) rows.items },
+    pub(crate) envelope: Envelope,
+    pub(crate) ghost called: { All (IsCalled envelope.plan) rows.items },
 }

@@ -79,12 +79,12 @@ no_words = refl
 
 -- an option stands anywhere; its value is the next word, or stands behind `=`
 option_in_front : request_of (codes "plan" ∷ codes "--print=timetable" ∷ codes "l" ∷ codes "s" ∷ codes "p" ∷ [])
-    ≡ Some (Plan (codes "l") (codes "s") (codes "p") print.Timetable)
+    ≡ Some (Plan (codes "l") (codes "s") (codes "p") print.Timetable None)
 unfolding clap_on_literals
 option_in_front = refl
 
 option_behind : request_of (codes "plan" ∷ codes "l" ∷ codes "s" ∷ codes "p" ∷ codes "--print" ∷ codes "envelope" ∷ [])
-    ≡ Some (Plan (codes "l") (codes "s") (codes "p") print.Envelope)
+    ≡ Some (Plan (codes "l") (codes "s") (codes "p") print.Envelope None)
 unfolding clap_on_literals
 option_behind = refl
 
@@ -101,12 +101,80 @@ value_missing : request_of (codes "plan" ∷ codes "l" ∷ codes "s" ∷ codes "
 unfolding clap_on_literals
 value_missing = refl
 
--- what else may be printed isn't there yet, and neither are edits
+-- what else may be printed isn't there yet
 other_print : request_of (codes "plan" ∷ codes "l" ∷ codes "s" ∷ codes "p" ∷ codes "--print" ∷ codes "cert" ∷ []) ≡ None
 unfolding clap_on_literals
 other_print = refl
 
 other_option : request_of (codes "plan" ∷ codes "l" ∷ codes "s" ∷ codes "p"
-    ∷ codes "--print" ∷ codes "envelope" ∷ codes "--edits" ∷ codes "e" ∷ []) ≡ None
+    ∷ codes "--print" ∷ codes "envelope" ∷ codes "--edit" ∷ codes "e" ∷ []) ≡ None
 unfolding clap_on_literals
 other_option = refl
+
+-- a file of edits may be named, once, and anywhere
+edits_in_front : request_of (codes "plan" ∷ codes "--edits" ∷ codes "e"
+    ∷ codes "l" ∷ codes "s" ∷ codes "p" ∷ codes "--print" ∷ codes "envelope" ∷ [])
+    ≡ Some (Plan (codes "l") (codes "s") (codes "p") print.Envelope (Some (codes "e")))
+unfolding clap_on_literals
+edits_in_front = refl
+
+edits_between : request_of (codes "plan" ∷ codes "l" ∷ codes "--edits=e"
+    ∷ codes "s" ∷ codes "--print" ∷ codes "timetable" ∷ codes "p" ∷ [])
+    ≡ Some (Plan (codes "l") (codes "s") (codes "p") print.Timetable (Some (codes "e")))
+unfolding clap_on_literals
+edits_between = refl
+
+edits_behind : request_of (codes "plan" ∷ codes "l" ∷ codes "s" ∷ codes "p"
+    ∷ codes "--print" ∷ codes "timetable" ∷ codes "--edits" ∷ codes "envelope" ∷ [])
+    ≡ Some (Plan (codes "l") (codes "s") (codes "p") print.Timetable (Some (codes "envelope")))
+unfolding clap_on_literals
+edits_behind = refl
+
+edits_without_value : request_of (codes "plan" ∷ codes "l" ∷ codes "s" ∷ codes "p"
+    ∷ codes "--print" ∷ codes "envelope" ∷ codes "--edits" ∷ []) ≡ None
+unfolding clap_on_literals
+edits_without_value = refl
+
+-- an empty name is a name
+edits_empty : request_of (codes "plan" ∷ codes "l" ∷ codes "s" ∷ codes "p"
+    ∷ codes "--print" ∷ codes "envelope" ∷ codes "--edits=" ∷ [])
+    ≡ Some (Plan (codes "l") (codes "s") (codes "p") print.Envelope (Some []))
+unfolding clap_on_literals
+edits_empty = refl
+
+edits_for_print : request_of (codes "plan" ∷ codes "l" ∷ codes "s" ∷ codes "p"
+    ∷ codes "--print" ∷ codes "--edits" ∷ codes "envelope" ∷ []) ≡ None
+unfolding clap_on_literals
+edits_for_print = refl
+
+edits_twice : request_of (codes "plan" ∷ codes "l" ∷ codes "s" ∷ codes "p"
+    ∷ codes "--print" ∷ codes "envelope" ∷ codes "--edits" ∷ codes "e" ∷ codes "--edits=e" ∷ []) ≡ None
+unfolding clap_on_literals
+edits_twice = refl
+
+-- a value that begins with a dash stands behind `=`, but for a dash alone
+edits_dash_behind_equals : request_of (codes "plan" ∷ codes "l" ∷ codes "s" ∷ codes "p"
+    ∷ codes "--print" ∷ codes "envelope" ∷ codes "--edits=-e" ∷ [])
+    ≡ Some (Plan (codes "l") (codes "s") (codes "p") print.Envelope (Some (codes "-e")))
+unfolding clap_on_literals
+edits_dash_behind_equals = refl
+
+edits_dash_in_front : request_of (codes "plan" ∷ codes "l" ∷ codes "s" ∷ codes "p"
+    ∷ codes "--print" ∷ codes "envelope" ∷ codes "--edits" ∷ codes "-e" ∷ []) ≡ None
+unfolding clap_on_literals
+edits_dash_in_front = refl
+
+edits_dash_alone : request_of (codes "plan" ∷ codes "l" ∷ codes "s" ∷ codes "p"
+    ∷ codes "--print" ∷ codes "envelope" ∷ codes "--edits" ∷ codes "-" ∷ [])
+    ≡ Some (Plan (codes "l") (codes "s") (codes "p") print.Envelope (Some (codes "-")))
+unfolding clap_on_literals
+edits_dash_alone = refl
+
+edits_behind_dashes : request_of (codes "plan" ∷ codes "--print" ∷ codes "envelope"
+    ∷ codes "l" ∷ codes "s" ∷ codes "p" ∷ codes "--" ∷ codes "--edits" ∷ codes "e" ∷ []) ≡ None
+unfolding clap_on_literals
+edits_behind_dashes = refl
+
+edits_of_another : request_of (codes "envelope" ∷ codes "l" ∷ codes "s" ∷ codes "--edits" ∷ codes "e" ∷ []) ≡ None
+unfolding clap_on_literals
+edits_of_another = refl

@@ -1,6 +1,6 @@
 -- The forms of a command line, and what each of them asks for.
 use Rattle.std.specs.Prelude.{ℕ, Bool, false, true, List, [], ◌∷◌, Option, Some, None, option_and_then}
-use Rattle.std.specs.Prelude.{codes, if◌then◌else◌}
+use Rattle.std.specs.Prelude.{codes, if◌then◌else◌, option_map}
 use Rattle.std.specs.Str.{bytes_eq}
 use Rattle.unit_rules.specs.Limits.{greatest_speed, longest_train}
 use Rattle.clap.specs.Words.{App, Row, Text, first_of}
@@ -23,7 +23,7 @@ pub data Request : Type 0 where
   Rise : List ℕ → List ℕ → ℕ → Request
   Brakes : List ℕ → List ℕ → Request
   Envelope : List ℕ → List ℕ → Request
-  Plan : List ℕ → List ℕ → List ℕ → Print → Request
+  Plan : List ℕ → List ℕ → List ℕ → Print → Option (List ℕ) → Request
 
 infixl 9 ◌>>=◌
 abbrev ◌>>=◌ : {A B : Type 0} → Option A → (A → Option B) → Option B
@@ -93,9 +93,12 @@ print_of word =
     else if bytes_eq word (codes "timetable") then Some print.Timetable
     else None
 
--- `plan LINE STOCK PLAN --print envelope|timetable`
+-- `plan LINE STOCK PLAN --print envelope|timetable [--edits FILE]`
 abbrev pub plan_app : App
-plan_app = train_app (codes "plan") taking positional (codes "plan") taking option_named true (codes "print")
+plan_app =
+    train_app (codes "plan")
+    taking positional (codes "plan")
+    taking option_named true (codes "print") taking option_named false (codes "edits")
 
 abbrev pub plan_in : List Row → Option Request
 plan_in rows = do
@@ -104,7 +107,7 @@ plan_in rows = do
   plan ← first_of (codes "plan") rows
   word ← first_of (codes "print") rows
   kind ← print_of word
-  Some (Plan line stock plan kind)
+  Some (Plan line stock plan kind (first_of (codes "edits") rows))
 
 -- the first of the words is this name
 abbrev pub asks : List Text → Text → Bool
@@ -140,7 +143,7 @@ abbrev pub envelope_view : EnvelopeForm → Request
 envelope_view f = Envelope f.line.now f.stock.now
 
 abbrev pub plan_view : PlanForm → Request
-plan_view f = Plan f.line.now f.stock.now f.plan.now f.print
+plan_view f = Plan f.line.now f.stock.now f.plan.now f.print (option_map (λ s. s.now) f.edits)
 
 -- what a request that was read asks for
 abbrev pub view : Form → Request

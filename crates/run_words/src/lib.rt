@@ -25,10 +25,10 @@ use unit_rules::{GREATEST_SPEED, LONGEST_TRAIN, Memory};
 /// - `rise LINE STOCK KMH`, with a speed from 0 to 500 km/h,
 /// - `brakes LINE STOCK`,
 /// - `envelope LINE STOCK`,
-/// - `plan LINE STOCK PLAN --print envelope`, or `timetable`.
+/// - `plan LINE STOCK PLAN --print envelope`, or `timetable`, and `--edits FILE` or none.
 ///
-/// A number has no sign, no space and no zero in front. A word that begins with a dash stands behind
-/// a word `--`, but for a dash alone.
+/// A number has no sign, no space and no zero in front. A value that begins with a dash stands behind
+/// a word `--`, and that of an option behind `=`, but for a dash alone.
 pub fn read_request<'a>(alloc: Global, words: &'a [String]) -> Result<Option<Request<'a>>, Memory>
     ensures { IfOk result (λ r. option_map view r ≡ request_of (map string_bytes words.entry.now)) }
 {
@@ -184,7 +184,7 @@ fn envelope_of<'a>(matches: &ArgMatches<'a>) -> Option<Request<'a>>
     Some(Request::Envelope(EnvelopeForm { line, stock }))
 }
 
-// Reads `plan LINE STOCK PLAN --print KIND`.
+// Reads `plan LINE STOCK PLAN --print KIND [--edits FILE]`.
 fn read_plan<'a>(alloc: Global, words: &'a [String]) -> Result<Option<Request<'a>>, Memory>
     ensures { IfOk result (λ r. option_map view r
         ≡ option_and_then plan_in (rows_in plan_app (map string_bytes words.entry.now))) }
@@ -200,7 +200,8 @@ fn plan_command<'a>(alloc: Global) -> Result<Command<'a>, Memory>
 {
     let command = train_command(alloc, "plan")?;
     let command = with_value(alloc, command, "plan")?;
-    with_option(alloc, command, "print", true)
+    let command = with_option(alloc, command, "print", true)?;
+    with_option(alloc, command, "edits", false)
 }
 
 fn plan_of<'a>(matches: &ArgMatches<'a>) -> Option<Request<'a>>
@@ -210,11 +211,13 @@ fn plan_of<'a>(matches: &ArgMatches<'a>) -> Option<Request<'a>>
     let stock = value_of(matches, "stock")?;
     let plan = value_of(matches, "plan")?;
     let print = print_of(value_of(matches, "print")?)?;
+    let edits = value_of(matches, "edits");
     Some(Request::Plan(PlanForm {
         line,
         stock,
         plan,
         print,
+        edits,
     }))
 }
 

@@ -64,8 +64,8 @@ pub enum Print {
     Timetable,
 }
 
-/// `plan LINE STOCK PLAN --print KIND`: the fastest run of a train over a line by a plan, or its
-/// timetable.
+/// `plan LINE STOCK PLAN --print KIND [--edits FILE]`: the fastest run of a train over a line by a
+/// plan, or its timetable, under the restrictions that a file of edits leaves in force.
 #[derive(Drop)]
 pub struct PlanForm<'a> {
     /// The name of the line's file.
@@ -76,6 +76,8 @@ pub struct PlanForm<'a> {
     pub plan: &'a str,
     /// What is printed.
     pub print: Print,
+    /// The name of the file of edits, if there is one.
+    pub edits: Option<&'a str>,
 }
 
 /// What the words of a command line ask for.

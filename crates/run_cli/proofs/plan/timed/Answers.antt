@@ -1,9 +1,14 @@
-use Rattle.std.proofs.Common.{All}
+use Rattle.std.proofs.Common.{◌≡◌, ◌∙◌, All, ap}
+use Rattle.plan_tables.specs.Plan.{PlanView}
+use Rattle.allowances.specs.Rows.{rows_of}
 use Rattle.report_text.specs.Timetables.{IsCalled}
 use Rattle.run_cli.proofs.TimeFacts.{rows-called}
 use Rattle.run_cli.proofs.plan.timed.Goals as goal
 
 pub invariant_of-result : goal.invariant_of-result
 invariant_of-result g c =
-    let all : All (IsCalled c.args.plan) c.in_ok-rows.rows.items = rw c.in_ok-rows.ensures.rows (rows-called c.args.plan c.args.length c.as_slice-speeds.result.now) in
+    let plan = c.args.envelope.plan in
+    let rows : c.in_ok-rows.rows.items ≡ rows_of plan c.length-length.result c.speeds-speeds.result.now =
+    c.in_ok-rows.ensures.rows ∙ ap (λ (p : PlanView). rows_of p c.length-length.result c.speeds-speeds.result.now) c.plan-plan.ensures.plan in
+    let all : All (IsCalled plan) c.in_ok-rows.rows.items = rw rows (rows-called plan c.length-length.result c.speeds-speeds.result.now) in
     record { called = all }
