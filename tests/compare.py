@@ -4,10 +4,11 @@
     python3 tests/compare.py [COUNT [SEED]]
 
 draws COUNT lines, trains and plans from SEED, the same ones at each run, asks the program for `stock`, `caps`,
-`rise`, `brakes`, `envelope` and `plan` over each, and compares whole outputs and exit statuses with what the
-model says. It compares as well how `stock` refuses trains that break a law of their tables, and all
-commands over the lines and trains of examples/. At the end it prints how many of the trains drawn ran the whole line and
-how many were stalled. tests/run.py makes the same comparisons with the COUNT and SEED below.
+`rise`, `brakes`, `envelope` and `plan` over each, for some of them `plan` under drawn edits too, and compares
+whole outputs and exit statuses with what the model says. It compares as well how `stock` refuses trains that
+break a law of their tables, and all commands over the lines and trains of examples/. At the end it prints how
+many of the trains drawn ran the whole line, how many were stalled, and what the edits were. tests/run.py makes
+the same comparisons with the COUNT and SEED below.
 """
 
 import csv
@@ -30,6 +31,7 @@ from model import (
     Drive,
     Line,
     Plan,
+    Refusal,
     Row,
     Section,
     Timetable,
@@ -38,6 +40,7 @@ from model import (
     between,
     bounds_of,
     caps_of,
+    edited,
     squared,
     true_times,
 )
@@ -203,6 +206,54 @@ def drawn_plan(random: Random, line: Line, train: Train) -> Plan:
     )
 
 
+def drawn_put(random: Random, name: str, length: int, top: int) -> str:
+    """A restriction that is put in force, slow or about the train's speeds."""
+    start, end = sorted(random.sample(range(length + 1), 2))
+    kmh = random.choice([1, random.randint(1, min(top + 3, 500))])
+    return f"put {name} {start} {end} {kmh}"
+
+
+def drawn_fault(random: Random, length: int) -> list[str]:
+    """Edits of which the last is refused, where no ID is in force that begins with `x`."""
+    put = drawn_put(random, "x", length, 500)
+    zones = ["1 1 5", f"0 {length + 1} 5", "0 1 0", "0 1 501", "00 1 5", "-1 1 5", "0 1.5 5", "-0 1 5"]
+    others = ["", "envelope", "time x", "take", "take x x", "Take x", "put x 0 1", "put\tx 0 1 5", "# x"]
+    wrong = [f"put x {random.choice(zones)}", "take x!", f"take {'x' * 41}", "put é 0 1 5"]
+    faults = [
+        [random.choice([f"{put:201}", "x" * 201])],
+        [random.choice(others)],
+        [random.choice(wrong)],
+        [put, put],
+        ["take x"],
+        [f"put x{number} 0 1 5" for number in range(10001)],
+    ]
+    return random.choice(faults)
+
+
+def spelled(random: Random, edit: str) -> str:
+    """An edit with blanks as they may stand, sometimes up to the greatest length, and a line end."""
+    around, between_words = random.choice(["", "", "  "]), random.choice([" ", " ", "   "])
+    line = around + edit.replace(" ", between_words) + around
+    return random.choice([line, line, f"{line:200}"]) + random.choice(["\n", "\n", "\r\n"])
+
+
+def drawn_edits(random: Random, line: Line, train: Train) -> str:
+    """An edits file of up to 40 lines that are accepted; some have a fault among them."""
+    edits: list[str] = []
+    held: list[str] = []
+    fault = random.choice([None, random.randint(0, 40)])
+    for number in range(random.randint(0, 40)):
+        if held and random.random() < 0.4:
+            edits.append(f"take {held.pop(random.randrange(len(held)))}")
+        else:
+            held.append(random.choice([f"r{number}", f"slow_.-{number}", f"{number:040}"]))
+            edits.append(drawn_put(random, held[-1], line.length, train.top))
+    if fault is not None:
+        edits[fault:fault] = drawn_fault(random, line.length)
+    text = "".join(spelled(random, edit) for edit in edits)
+    return text.removesuffix("\n") if random.random() < 0.2 else text
+
+
 # Reading
 
 
@@ -239,6 +290,12 @@ KINDS = [
     "whole over a hill that slows more than the brakes",
 ]
 KINDS += [f"{kind}, by a plan" for kind in KINDS]
+KINDS += [f"edits refused by code {code}" for code in range(1, 7)]
+KINDS += [
+    "edits that change nothing",
+    "edits that change the run",
+    "edits that stall the train",
+]
 
 
 def records_text(records: Iterable[str]) -> str:
@@ -340,12 +397,13 @@ class Ride:
 
 @dataclass(frozen=True)
 class Journey:
-    """A train on a line, a speed for `rise`, and a plan."""
+    """A train on a line, a speed for `rise`, a plan, and an edits file where there is one."""
 
     line: Line
     train: Train
     kmh: int  # km/h
     plan: Plan
+    edits: str | None = None
 
     @cached_property
     def drive(self) -> Drive:
@@ -370,6 +428,16 @@ class Journey:
     def planned(self) -> Ride:
         return self.ride(self.plan)
 
+    @cached_property
+    def held(self) -> tuple[Zone, ...] | Refusal:
+        """The restrictions that the edits leave in force."""
+        return edited(self.edits or "", self.line.length)
+
+    @cached_property
+    def restricted(self) -> "Journey":
+        """The journey under the restrictions in force."""
+        return replace(self, line=self.line.under(self.held), edits=None)
+
     def rise_text(self) -> str:
         """The text of `rise`: a line `CELL PULL UP LOW` for each cell."""
         drive, u = self.drive, squared(min(self.kmh, self.train.top))
@@ -390,6 +458,17 @@ class Journey:
         yield ["envelope", "line.csv", "train.toml"], self.free.answer()
         yield [*plan, "envelope"], self.planned.answer()
         yield [*plan, "timetable"], self.timetable_answer()
+        if self.edits is not None:
+            run, timetable = self.edited_answers()
+            yield [*plan, "envelope", "--edits", "edits.txt"], run
+            yield [*plan, "timetable", "--edits", "edits.txt"], timetable
+
+    def edited_answers(self) -> tuple[Answer, Answer]:
+        """What `plan` answers under the edits, where it prints the run and where the timetable."""
+        if isinstance(self.held, Refusal):
+            refused = 5, f"refused 4 {self.held.line} {self.held.code}\n"
+            return refused, refused
+        return self.restricted.planned.answer(), self.restricted.timetable_answer()
 
     def timetable_answer(self) -> Answer:
         """What `plan` answers where it prints the timetable."""
@@ -412,14 +491,26 @@ class Journey:
         """The kinds of case that this is one of."""
         yield from self.free.kinds()
         yield from (f"{kind}, by a plan" for kind in self.planned.kinds())
+        if self.edits is not None:
+            yield self.kind_of_edits()
+
+    def kind_of_edits(self) -> str:
+        """The kind of the edits."""
+        if isinstance(self.held, Refusal):
+            return f"edits refused by code {self.held.code}"
+        before, after = self.planned, self.restricted.planned
+        if (before.run, before.stall) == (after.run, after.stall):
+            return "edits that change nothing"
+        return "edits that stall the train" if before.run and not after.run else "edits that change the run"
 
     def files(self) -> dict[str, str]:
-        """The files that say the line, the train and the plan."""
-        return {
+        """The files that say the line, the train, the plan and, where there are some, the edits."""
+        files = {
             "line.csv": line_text(self.line, self.plan),
             "train.toml": stock_text(self.train),
             "plan.csv": plan_text(self.plan),
         }
+        return files if self.edits is None else files | {"edits.txt": self.edits}
 
 
 # Comparing
@@ -487,13 +578,14 @@ def comparisons(
 
     The kinds of the cases are counted in `kinds`.
     """
-    random = Random(seed)
+    random, of_edits = Random(seed), Random(seed)
     kinds = Counter() if kinds is None else kinds
     for number in range(1, count + 1):
         train = lawful_train(random)
         kmh = random.randint(0, min(train.top + 3, 500))
         line = drawn_line(random, train)
-        drawn = Journey(line, train, kmh, drawn_plan(random, line, train))
+        edits = drawn_edits(of_edits, line, train) if of_edits.random() < 0.2 else None
+        drawn = Journey(line, train, kmh, drawn_plan(random, line, train), edits)
         kinds.update(drawn.kinds())
         yield compared(f"drawn {number}", drawn.files(), drawn.answers())
         yield f"the true times of drawn {number}", drawn.encloses(), f"  {drawn.files()}\n"

@@ -2,15 +2,17 @@
 
 It is meant to be checked against METHOD.md section by section, so it states the definitions and seeks
 no speed: a run is found by lowering the caps, in passes along the line, until no clause lowers any more.
+How an edits file is read isn't said there; that stands in docs/FORMATS.md.
 
 Units: places in m, speeds in km/h, squared speeds `u` in (0.01 km/h)², forces in N (resistance in mN),
 masses in kg, braking rates in mm/s², gradients in tenths of a per mille. Push and pull are in units of
 `u` times kg, braking in units of `u`; both are by the metre run. `//` rounds down, also below 0.
 """
 
+import re
 from bisect import bisect_left, bisect_right
-from collections.abc import Callable, Iterable, Sequence
-from dataclasses import dataclass
+from collections.abc import Callable, Collection, Iterable, Sequence
+from dataclasses import dataclass, replace
 from decimal import Decimal, localcontext
 from functools import cached_property
 from itertools import accumulate, pairwise
@@ -110,6 +112,10 @@ class Line:
         """The gradient of a cell in tenths of a per mille: level where no record gives it."""
         return sum(slope for start, end, slope in self.gradients if start <= cell < end)
 
+    def under(self, zones: Iterable[Zone]) -> "Line":
+        """The line with restrictions in force, which bind as its limits do."""
+        return replace(self, limits=(*self.limits, *zones))
+
 
 def pulls_of(line: Line, train: Train) -> list[int]:
     """The pull at each cell: that of the mean gradient of the cells under the train."""
@@ -173,6 +179,75 @@ def caps_of(line: Line, length: int, top: int, bounds: Iterable[Row] = ()) -> li
     for point, most in bounds:
         caps[point] = min(caps[point], most)
     return caps
+
+
+# Edits
+
+
+NAME = re.compile("[A-Za-z0-9._-]{1,40}")
+WHOLE = re.compile("0|-?[1-9][0-9]*")
+WORDS = {"put": 5, "take": 2}  # the words of each command
+LONGEST = 200  # bytes of a line
+MOST_HELD = 10000  # restrictions that may be in force
+
+
+@dataclass(frozen=True)
+class Refusal:
+    """The first line of an edits file that has a code."""
+
+    line: int  # its number, from 1
+    code: int
+
+
+def edit_lines(text: str) -> list[str]:
+    """The lines of an edits file, each without one CR at its end; the last needs no LF."""
+    *lines, last = text.split("\n")
+    return [line.removesuffix("\r") for line in (*lines, *([last] if last else []))]
+
+
+def words_of(line: str) -> list[str]:
+    """The words of a line, parted by blanks."""
+    return [word for word in line.split(" ") if word]
+
+
+def is_zone(words: Sequence[str], length: int) -> bool:
+    """Whether words are from and to on a line of so many m, and a speed."""
+    if not all(map(WHOLE.fullmatch, words)):
+        return False
+    start, end, kmh = map(int, words)
+    return 0 <= start < end <= length and 1 <= kmh <= 500
+
+
+def code_of(line: str, length: int, held: Collection[str]) -> int | None:
+    """The code that a line has, where restrictions of the names `held` are in force; None where none."""
+    words = words_of(line)
+    if len(line.encode()) > LONGEST:
+        return 1
+    if not words or len(words) != WORDS.get(words[0]):
+        return 2
+    kind, name, *zone = words
+    if not NAME.fullmatch(name) or (kind == "put" and not is_zone(zone, length)):
+        return 3
+    if kind == "take":
+        return None if name in held else 5
+    if name in held:
+        return 4
+    return 6 if len(held) == MOST_HELD else None
+
+
+def edited(text: str, length: int) -> tuple[Zone, ...] | Refusal:
+    """The restrictions that an edits file leaves in force on a line of so many m, in their order."""
+    held: dict[str, Zone] = {}
+    for number, line in enumerate(edit_lines(text), 1):
+        if code := code_of(line, length, held):
+            return Refusal(number, code)
+        kind, name, *zone = words_of(line)
+        if kind == "put":
+            start, end, kmh = map(int, zone)
+            held[name] = start, end, kmh
+        else:
+            del held[name]
+    return tuple(held.values())
 
 
 # Runs
