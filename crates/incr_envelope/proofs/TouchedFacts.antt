@@ -151,7 +151,3 @@ pub StandsFor-known : (s : KeptSums) (e : List ℕ) (n : ℕ) → StandsFor s e 
 StandsFor-known s e n stands =
     let listed = stands.moving.listed in
     StandsFor-same s e (take n e) n (omega (arith, length-take-le n e listed)) (λ i l. sym (get_or-take n e i 0 l)) stands
-
--- and the other way round
-pub StandsFor-whole : (s : KeptSums) (e : List ℕ) (n : ℕ) → n ≤ length e → StandsFor s (take n e) n → StandsFor s e n
-StandsFor-whole s e n listed stands = StandsFor-same s (take n e) e n listed (λ i l. get_or-take n e i 0 l) stands

@@ -259,12 +259,6 @@ caps_of-agree line train top xs ys z bounds same =
       ];
     }
 
--- so does one zone less
-pub caps_of-agree_less : (line train top : ℕ) (xs ys : List Zone) (z : Zone) (bounds : List Bound) → AreSame xs (z ∷ ys)
-    → AgreeOutside (caps_of line train top ys bounds) (caps_of line train top xs bounds) z.from (min line (z.to + train))
-caps_of-agree_less line train top xs ys z bounds same =
-    AgreeOutside-sym (caps_of line train top xs bounds) (caps_of line train top ys bounds) z.from (min line (z.to + train)) (caps_of-agree line train top xs ys z bounds same)
-
 -- the zones of one more restriction
 pub zones_of-more : (pairs : List (List ℕ × Zone)) (place : ℕ) (p : List ℕ × Zone) → slice_get pairs place ≡ Some p → zones_of (take (place + 1) pairs) ≡ zones_of (take place pairs) ++ p.1 ∷ []
 zones_of-more pairs place p at =

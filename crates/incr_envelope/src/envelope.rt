@@ -9,13 +9,12 @@ ghost use Rattle.incr_envelope.specs.Envelope.{IsFromScratch, IsOf, IsOneCase, a
 ghost use Rattle.time_brackets.specs.Sums.{block_cells};
 
 use crate::run::Run;
-use crate::scratch::zones_in;
+use crate::scratch::course_of;
 use crate::walks::{first_run, known_by, run_again};
 use allowances::arrival_at;
-use case_rules::{limits_on, rule_on};
 use limit_profile::Limits;
 use line_tables::Line;
-use plan_tables::{Plan, bounds};
+use plan_tables::Plan;
 use restrictions::{EditFault, Id, InForce, MOST_IN_FORCE};
 use std::alloc::Global;
 use std::marker::Model;
@@ -106,11 +105,8 @@ impl Envelope {
         ensures kept { IfOk result IsFromScratch }
         ensures cost { steps.new ≤ steps.old + (33 * (line.length + 1) + 2 * line.length) }
     {
-        let bounds = bounds(alloc, &plan, line.length())?;
-        let zones = zones_in(alloc, &force)?;
-        let limits = limits_on(alloc, &line, &stock, &zones, &bounds)?;
         let (mass, train) = (stock.mass(), stock.length());
-        let rule = rule_on(alloc, &line, stock)?;
+        let (limits, rule) = course_of(alloc, &line, stock, &plan, &force)?;
         let run = first_run(alloc, &rule, &limits, steps)?;
         let envelope = Envelope {
             line,

@@ -1,7 +1,10 @@
 //! The braking list and the fastest run of a train, made once.
 
 ghost use Rattle.std.specs.Prelude.{◌≡◌, ◌≤◌, ◌+◌, ◌*◌, All, IfOk, length};
-ghost use Rattle.case_rules.specs.Case.{train_rule};
+ghost use Rattle.case_rules.specs.Case.{case_profile, train_motion, train_rule};
+ghost use Rattle.plan_tables.specs.Bounds.{bounds_of};
+ghost use Rattle.step_rule.specs.Motion.{cells_of, kmh_of};
+ghost use Rattle.stock_tables.specs.Stock.{IsStock};
 ghost use Rattle.incr_envelope.specs.Envelope.{caps_under};
 ghost use Rattle.plan_tables.specs.Plan.{PlanLiesOn};
 ghost use Rattle.restrictions.specs.Force.{IsForce, zones_of};
@@ -11,11 +14,13 @@ ghost use Rattle.unit_rules.specs.Zone.{LiesOn};
 use crate::run::Drive;
 use crate::walks::{walked_back, walked_on};
 use case_rules::{limits_on, rule_on};
+use limit_profile::Limits;
 use line_tables::Line;
 use plan_tables::{Plan, bounds};
 use restrictions::InForce;
 use std::alloc::Global;
 use std::sync::ledger::Ledger;
+use step_rule::Rule;
 use stock_tables::Stock;
 use unit_rules::{Memory, Steps, Zone};
 
@@ -36,10 +41,7 @@ pub fn braking_list<L: Ledger>(
         (caps_under line.now stock plan.now force.now.pairs) list.items) }
     ensures cost { steps.new ≤ steps.old + 33 * (line.now.length + 1) }
 {
-    let bounds = bounds(alloc, plan, line.length())?;
-    let zones = zones_in(alloc, force)?;
-    let limits = limits_on(alloc, line, &stock, &zones, &bounds)?;
-    let rule = rule_on(alloc, line, stock)?;
+    let (limits, rule) = course_of(alloc, line, stock, plan, force)?;
     walked_back(alloc, &rule, &limits, steps)
 }
 
@@ -60,12 +62,54 @@ pub fn drive<L: Ledger>(
     ensures long { IfOk result (λ d. length d.speeds.items ≡ line.now.length + 1) }
     ensures cost { steps.new ≤ steps.old + (33 * (line.now.length + 1) + line.now.length) }
 {
-    let bounds = bounds(alloc, plan, line.length())?;
-    let zones = zones_in(alloc, force)?;
-    let limits = limits_on(alloc, line, &stock, &zones, &bounds)?;
-    let rule = rule_on(alloc, line, stock)?;
+    let (limits, rule) = course_of(alloc, line, stock, plan, force)?;
     let brakes = walked_back(alloc, &rule, &limits, steps)?;
     walked_on(alloc, &rule, &brakes, steps)
+}
+
+// The limits and the step rule of a train on a line by a plan, under the restrictions in force.
+pub(crate) fn course_of(
+    alloc: Global,
+    line: &Line,
+    stock: Stock,
+    plan: &Plan,
+    force: &InForce,
+) -> Result<(Limits, Rule), Memory>
+    requires plan { PlanLiesOn line.now.length plan.now }
+    requires zones { All (LiesOn line.now.length) (zones_of force.now.pairs) }
+    ensures limits { IfOk result (λ both. both.0 ≡ case_profile line.now stock
+        (zones_of force.now.pairs) (bounds_of plan.now line.now.length)) }
+    ensures motion { IfOk result (λ both. both.1 ≡ train_motion line.now stock) }
+    ensures cells { IfOk result (λ both. cells_of both.1 ≡ line.now.length) }
+    ensures top { IfOk result (λ both. kmh_of both.1 ≡ stock.top) }
+    ensures force { IsForce force.now }
+    ensures stock { IsStock stock }
+{
+    let limits = limits_under(alloc, line, &stock, plan, force)?;
+    let rule = rule_on(alloc, line, stock)?;
+    Ok((limits, rule))
+}
+
+// The limits of a train on a line by a plan, under the restrictions in force.
+fn limits_under(
+    alloc: Global,
+    line: &Line,
+    stock: &Stock,
+    plan: &Plan,
+    force: &InForce,
+) -> Result<Limits, Memory>
+    requires plan { PlanLiesOn line.now.length plan.now }
+    requires zones { All (LiesOn line.now.length) (zones_of force.now.pairs) }
+    ensures limits { IfOk result (λ limits. limits ≡ case_profile line.now stock.now
+        (zones_of force.now.pairs) (bounds_of plan.now line.now.length)) }
+    ensures force { IsForce force.now }
+    ensures stock { IsStock stock.now }
+{
+    // A stock keeps what its tables are.
+    let _mass = stock.mass();
+    let zones = zones_in(alloc, force)?;
+    let bounds = bounds(alloc, plan, line.length())?;
+    limits_on(alloc, line, stock, &zones, &bounds)
 }
 
 // The zones of the restrictions in force.

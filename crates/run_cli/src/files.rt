@@ -146,8 +146,10 @@ pub(crate) fn load_case<S: Shelf>(
     form: &PlanForm<'_>,
 ) -> Result<Case, Status>
     ensures case { IfOk result (IsCase (names_of form.now) (S.told shelf.old).holds) }
-    ensures loads { Loads (case_files (names_of form.now)) (S.told shelf.old) (S.told shelf.new) result }
-    ensures asks { AsksOnce (case_files (names_of form.now)) (S.asked shelf.old) (S.asked shelf.new) }
+    ensures loads { Loads (case_files (names_of form.now))
+        (S.told shelf.old) (S.told shelf.new) result }
+    ensures asks { AsksOnce (case_files (names_of form.now))
+        (S.asked shelf.old) (S.asked shelf.new) }
 {
     let (line, stock) = load_both(alloc, shelf, form.line, form.stock)?;
     let (plan, force) = load_orders(alloc, shelf, &line, form.plan, form.edits)?;
