@@ -1,7 +1,6 @@
--- The pulls and the caps of a train on a line.
-use Rattle.std.proofs.Common.{◌≡◌, ℕ, List, ℤ, length, Result, Ok, Err, IfOk, ap, refl, ◌∙◌}
+-- The pulls of a train on a line.
+use Rattle.std.proofs.Common.{◌≡◌, List, ℤ, length, refl}
 use Rattle.std.proofs.lemmas.List.FromFn.{length-map-range_with_len}
-use Rattle.limit_profile.specs.Profile.{Profile, caps}
 use Rattle.line_tables.specs.Line.{LineView}
 use Rattle.stock_tables.specs.Stock.{StockView}
 use Rattle.train_mean.specs.Gradients.{gradients_under, pull_of}
@@ -11,8 +10,3 @@ use Rattle.case_rules.specs.Case.{train_pulls}
 pub length-train_pulls : (line : LineView) (stock : StockView) (pulls : List ℤ) → pulls ≡ train_pulls line stock → length pulls ≡ line.length
 length-train_pulls line stock pulls e =
     rw (e, length-map-range_with_len (λ cell. pull_of stock.mass stock.length (gradients_under line.slopes stock.length cell)) 0 line.length) refl
-
--- limits that were made have the caps of what they were made of
-pub caps-made : {E : Type 0} (r : Result Profile E) (p : Profile) (x : List ℕ) → IfOk r (λ l. l ≡ p) → caps p ≡ x → IfOk r (λ l. caps l ≡ x)
-caps-made (Ok l) p x e is = ap caps e ∙ is
-caps-made (Err fault) p x e is = tt

@@ -1,5 +1,5 @@
 -- What a train is on a line: the pulls, the step rule and the caps.
-use Rattle.std.specs.Prelude.{ℕ, List, [], ◌++◌, ℤ}
+use Rattle.std.specs.Prelude.{ℕ, List, ◌++◌, ℤ}
 use Rattle.limit_profile.specs.Profile.{Profile, profile_of}
 use Rattle.line_tables.specs.Line.{LineView}
 use Rattle.plan_tables.specs.Bounds.{bounds_of}
@@ -40,6 +40,6 @@ abbrev pub case_caps : LineView → StockView → List Zone → List Bound → L
 case_caps line stock restrictions bounds =
     caps_of line.length stock.length stock.top (line.limits ++ restrictions) bounds
 
--- the caps of a train on a line by a plan, without restrictions
-abbrev pub plan_caps : LineView → StockView → PlanView → List ℕ
-plan_caps line stock plan = case_caps line stock [] (bounds_of plan line.length)
+-- the caps of a train on a line by a plan, under restrictions beside the line's limits
+abbrev pub plan_caps : LineView → StockView → PlanView → List Zone → List ℕ
+plan_caps line stock plan restrictions = case_caps line stock restrictions (bounds_of plan line.length)

@@ -1,9 +1,8 @@
 //! What a train is on a line: the pulls, the step rule and the limits, made of its tables.
 #![tactic(auto)]
 
-ghost use Rattle.std.specs.Prelude.{◌≡◌, ◌≤◌, [], All, IfOk};
-ghost use Rattle.case_rules.specs.Case.{case_caps, case_profile, plan_caps, train_motion, train_pulls, train_rule};
-ghost use Rattle.limit_profile.specs.Profile.{caps};
+ghost use Rattle.std.specs.Prelude.{◌≡◌, ◌≤◌, All, IfOk};
+ghost use Rattle.case_rules.specs.Case.{case_profile, train_motion, train_pulls, train_rule};
 ghost use Rattle.plan_tables.specs.Bounds.{bounds_of};
 ghost use Rattle.plan_tables.specs.Plan.{PlanLiesOn};
 ghost use Rattle.run_rules.specs.StepRules.{IsPull};
@@ -55,9 +54,26 @@ pub fn rule_on(alloc: Global, line: &Line, stock: Stock) -> Result<Rule, Memory>
     Ok(rule_by(line, stock, pulls))
 }
 
-/// The limits of a train on a line, under restrictions beside the line's own limits, and bounds at
-/// some points.
-pub fn limits_on(
+/// The limits of a train on a line by a plan, under restrictions beside the line's own limits.
+pub fn plan_limits(
+    alloc: Global,
+    line: &Line,
+    stock: &Stock,
+    plan: &Plan,
+    restrictions: &[Zone],
+) -> Result<Limits, Memory>
+    requires plan { PlanLiesOn line.now.length plan.now }
+    requires restrictions { All (LiesOn line.now.length) restrictions.now }
+    ensures profile { IfOk result (λ limits. limits ≡ case_profile line.now stock.now
+        restrictions.now (bounds_of plan.now line.now.length)) }
+{
+    let bounds = bounds(alloc, plan, line.length())?;
+    limits_on(alloc, line, stock, restrictions, &bounds)
+}
+
+// The limits of a train on a line, under restrictions beside the line's own limits, and bounds at
+// some points.
+fn limits_on(
     alloc: Global,
     line: &Line,
     stock: &Stock,
@@ -68,10 +84,6 @@ pub fn limits_on(
     requires bounds { All (λ b. b.at ≤ line.now.length) bounds.now }
     ensures profile { IfOk result (λ limits.
         limits ≡ case_profile line.now stock.now restrictions.now bounds.now) }
-    ensures caps { IfOk result (λ limits.
-        caps limits ≡ case_caps line.now stock.now restrictions.now bounds.now) }
-    ensures length { IfOk result (λ limits. limits.length ≡ line.now.length) }
-    ensures top { IfOk result (λ limits. limits.top ≡ stock.now.top) }
 {
     let Ok(mut zones) = Vec::from_slice(alloc, line.limits()) else {
         return Err(Memory);
@@ -81,18 +93,4 @@ pub fn limits_on(
     };
     let (length, train, top) = (line.length(), stock.length(), stock.top());
     Limits::new(alloc, length, train, top, &zones, bounds)
-}
-
-/// The limits of a train on a line by a plan, without restrictions.
-pub fn plan_limits(alloc: Global, line: &Line, stock: &Stock, plan: &Plan) -> Result<Limits, Memory>
-    requires { PlanLiesOn line.now.length plan.now }
-    ensures profile { IfOk result (λ limits.
-        limits ≡ case_profile line.now stock.now [] (bounds_of plan.now line.now.length)) }
-    ensures caps { IfOk result (λ limits.
-        caps limits ≡ plan_caps line.now stock.now plan.now) }
-    ensures length { IfOk result (λ limits. limits.length ≡ line.now.length) }
-    ensures top { IfOk result (λ limits. limits.top ≡ stock.now.top) }
-{
-    let bounds = bounds(alloc, plan, line.length())?;
-    limits_on(alloc, line, stock, &[], &bounds)
 }

@@ -160,11 +160,11 @@ put_in-pairs id z pairs after e = elim (cases_Bool (is_some (zone_of id pairs)))
 ]
 
 -- the fields belong together once a zone was put
-pub IsKept-put : (f : Fields) (id : List ℕ) (z : Zone) (limits : Profile) (force : ForceView) (run : Run) → IsKept f → LiesOn f.line.length z → 1 ≤ f.spare
+pub IsKept-put : (f : Fields) (id : List ℕ) (z : Zone) (limits : Profile) (force : ForceView) (run : Run) → IsKept f → LiesOn f.line.length z
     → limits ≡ rezoned f.limits (f.limits.zones ++ z ∷ []) (f.limits.spare - 1) → put_in id z f.force.pairs ≡ Ok force.pairs → force.spare ≡ f.force.spare - 1 → IsForce force
     → IsFastest (step_rule_of f.motion) (cells_of f.motion) (most_of f.motion) (caps limits) run
     → IsKept (record { line = f.line; plan = f.plan; mass = f.mass; train = f.train; motion = f.motion; limits = limits; force = force; spare = f.spare - 1; run = run })
-IsKept-put f id z limits force run kept lies some put pairs room is_force fastest =
+IsKept-put f id z limits force run kept lies put pairs room is_force fastest =
     let after = put_in-pairs id z f.force.pairs force.pairs pairs in
     let zones : limits.zones ≡ f.limits.zones ++ z ∷ [] = ap (λ (p : Profile). p.zones) put in
     let spare : limits.spare ≡ f.limits.spare - 1 = ap (λ (p : Profile). p.spare) put in

@@ -258,10 +258,3 @@ caps_of-agree line train top xs ys z bounds same =
             get_or_past (caps_of line train top xs bounds) i 0 (omega (arith, long)) ∙ sym (get_or_past (caps_of line train top ys bounds) i 0 (omega (arith, other)))
       ];
     }
-
--- the zones of one more restriction
-pub zones_of-more : (pairs : List (List ℕ × Zone)) (place : ℕ) (p : List ℕ × Zone) → slice_get pairs place ≡ Some p → zones_of (take (place + 1) pairs) ≡ zones_of (take place pairs) ++ p.1 ∷ []
-zones_of-more pairs place p at =
-    let within = slice_get_within pairs place p at in
-    let here = get_or_from_slice_get pairs place p p at in
-    ap zones_of (take_more pairs place p within) ∙ map_push (λ (q : List ℕ × Zone). q.1) (take place pairs) (get_or pairs place p) ∙ ap (λ (q : List ℕ × Zone). zones_of (take place pairs) ++ q.1 ∷ []) here

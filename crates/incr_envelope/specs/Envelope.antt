@@ -8,12 +8,11 @@ use Rattle.run_rules.specs.Runs.{IsBrakingList, ReachesAs, StepRule}
 use Rattle.run_rules.specs.Walks.{count_of}
 use Rattle.line_tables.specs.Line.{LineView}
 use Rattle.stock_tables.specs.Stock.{StockView}
-use Rattle.plan_tables.specs.Bounds.{bounds_of}
 use Rattle.plan_tables.specs.Plan.{PlanLiesOn, PlanView}
 use Rattle.time_brackets.specs.Sums.{KeptSums, StandsFor}
 use Rattle.time_brackets.specs.declared.Bracket.{Bracket}
 use Rattle.allowances.specs.Arrivals.{arrival}
-use Rattle.case_rules.specs.Case.{case_caps, train_rule}
+use Rattle.case_rules.specs.Case.{plan_caps, train_rule}
 use Rattle.restrictions.specs.Force.{zones_of}
 use Rattle.incr_envelope.specs.Touched.{Lists, touched}
 
@@ -32,7 +31,7 @@ pub record EnvelopeView : Type 0 where
 
 -- the caps of a train on a line by a plan, under the restrictions in force
 abbrev pub caps_under : LineView → StockView → PlanView → List (List ℕ × Zone) → List ℕ
-caps_under line stock plan force = case_caps line stock (zones_of force) (bounds_of plan line.length)
+caps_under line stock plan force = plan_caps line stock plan (zones_of force)
 
 -- the step rule and the caps of an envelope
 abbrev pub rule_in : EnvelopeView → StepRule

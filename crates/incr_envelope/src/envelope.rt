@@ -15,7 +15,7 @@ use allowances::arrival_at;
 use limit_profile::Limits;
 use line_tables::Line;
 use plan_tables::Plan;
-use restrictions::{EditFault, Id, InForce, MOST_IN_FORCE};
+use restrictions::{EditFault, Id, InForce};
 use std::alloc::Global;
 use std::marker::Model;
 use std::sync::ledger::Ledger;
@@ -119,6 +119,7 @@ impl Envelope {
             spare: 0,
             run,
         };
+        // What an envelope keeps is told by its calls.
         let _reach = envelope.reach();
         Ok(envelope)
     }
@@ -160,18 +161,12 @@ impl Envelope {
         ensures one_case { IsOneCase self.old self.new }
         ensures kept { IsFromScratch self.new }
     {
-        if self.force.get(id).is_some() {
-            return Err(EditFault::Present);
-        }
-        if self.force.len() as usize >= MOST_IN_FORCE {
-            return Err(EditFault::Full);
-        }
-        let Ok(()) = self.reserve(1) else {
+        let Ok(()) = self.limits.reserve(1) else {
             return Err(EditFault::Memory);
         };
         self.force.put(id, zone)?;
         self.limits.add(zone);
-        self.spare -= 1;
+        self.spare = self.spare.saturating_sub(1);
         let to = last_bound(self.line.length(), self.train, zone);
         run_again(
             &self.rule,

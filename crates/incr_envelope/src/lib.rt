@@ -5,6 +5,8 @@
 mod envelope;
 mod run;
 mod scratch;
+#[cfg(test)]
+mod tests;
 mod walks;
 
 pub use crate::envelope::Envelope;

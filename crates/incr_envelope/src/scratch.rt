@@ -4,7 +4,6 @@ ghost use Rattle.std.specs.Prelude.{◌≡◌, ◌≤◌, ◌+◌, ◌*◌, All,
 ghost use Rattle.case_rules.specs.Case.{case_profile, train_motion, train_rule};
 ghost use Rattle.plan_tables.specs.Bounds.{bounds_of};
 ghost use Rattle.step_rule.specs.Motion.{cells_of, kmh_of};
-ghost use Rattle.stock_tables.specs.Stock.{IsStock};
 ghost use Rattle.incr_envelope.specs.Envelope.{caps_under};
 ghost use Rattle.plan_tables.specs.Plan.{PlanLiesOn};
 ghost use Rattle.restrictions.specs.Force.{IsForce, zones_of};
@@ -13,20 +12,19 @@ ghost use Rattle.unit_rules.specs.Zone.{LiesOn};
 
 use crate::run::Drive;
 use crate::walks::{walked_back, walked_on};
-use case_rules::{limits_on, rule_on};
+use case_rules::{plan_limits, rule_on};
 use limit_profile::Limits;
 use line_tables::Line;
-use plan_tables::{Plan, bounds};
+use plan_tables::Plan;
 use restrictions::InForce;
 use std::alloc::Global;
 use std::sync::ledger::Ledger;
 use step_rule::Rule;
 use stock_tables::Stock;
-use unit_rules::{Memory, Steps, Zone};
+use unit_rules::{Memory, Steps};
 
-/// The braking list of a train on a line by a plan under the restrictions in force: by
-/// point the greatest squared
-/// speed, in (0.01 km/h)², from which the train can brake for all that is ahead.
+/// The braking list of a train on a line by a plan under the restrictions in force: by point the
+/// greatest squared speed, in (0.01 km/h)², from which the train can brake for all that is ahead.
 pub fn braking_list<L: Ledger>(
     alloc: Global,
     line: &Line,
@@ -83,7 +81,6 @@ pub(crate) fn course_of(
     ensures cells { IfOk result (λ both. cells_of both.1 ≡ line.now.length) }
     ensures top { IfOk result (λ both. kmh_of both.1 ≡ stock.top) }
     ensures force { IsForce force.now }
-    ensures stock { IsStock stock }
 {
     let limits = limits_under(alloc, line, &stock, plan, force)?;
     let rule = rule_on(alloc, line, stock)?;
@@ -103,26 +100,7 @@ fn limits_under(
     ensures limits { IfOk result (λ limits. limits ≡ case_profile line.now stock.now
         (zones_of force.now.pairs) (bounds_of plan.now line.now.length)) }
     ensures force { IsForce force.now }
-    ensures stock { IsStock stock.now }
 {
-    // A stock keeps what its tables are.
-    let _mass = stock.mass();
-    let zones = zones_in(alloc, force)?;
-    let bounds = bounds(alloc, plan, line.length())?;
-    limits_on(alloc, line, stock, &zones, &bounds)
-}
-
-// The zones of the restrictions in force.
-pub(crate) fn zones_in(alloc: Global, force: &InForce) -> Result<Vec<Zone>, Memory>
-    ensures zones { IfOk result (λ zones. zones.items ≡ zones_of force.now.pairs) }
-    ensures kept { IsForce force.now }
-{
-    let mut zones = Vec::new(alloc);
-    for place in 0..force.len() {
-        let (_id, zone) = force.nth(place);
-        let Ok(()) = zones.push(zone) else {
-            return Err(Memory);
-        };
-    }
-    Ok(zones)
+    let zones = force.zones()?;
+    plan_limits(alloc, line, stock, plan, &zones)
 }

@@ -130,13 +130,21 @@ fn put_between(breaks: &mut Vec<Break>, first: usize, past: usize, list: &mut Ve
     ensures room { vec_capacity breaks.old ≤ vec_capacity breaks.new }
     ensures list_room { vec_capacity list.old ≤ vec_capacity list.new }
 {
-    let Ok(()) = list.extend_from_slice(&breaks[past..]) else {
-        return;
-    };
+    append(list, &breaks[past..]);
     breaks.truncate(first);
-    let Ok(()) = breaks.extend_from_slice(list) else {
-        return;
-    };
+    append(breaks, list);
+}
+
+// Puts breaks behind others, for which there is room.
+fn append(breaks: &mut Vec<Break>, more: &[Break])
+    requires { vec_len breaks.old + length more.now ≤ vec_capacity breaks.old }
+    ensures items { breaks.new.items ≡ breaks.old.items ++ more.now }
+    ensures room { vec_capacity breaks.old ≤ vec_capacity breaks.new }
+{
+    match breaks.extend_from_slice(more) {
+        Ok(()) => (),
+        Err(_) => unreachable!(),
+    }
 }
 
 // The piece of the caps from a point on, from the piece before the change. Where the zone doesn't bind,

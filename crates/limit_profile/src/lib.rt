@@ -2,7 +2,7 @@
 //! the stops allow at each point.
 #![tactic(auto)]
 
-ghost use Rattle.std.specs.Prelude.{◌≡◌, ◌≢◌, ℕ, ◌+◌, ◌-◌, ◌*◌, ◌^◌, ◌≤◌, ◌<◌, ◌==◌, [], ◌∷◌, ◌++◌, max, All, Contains, IfOk, OnOk, OnErr, length, slice_index, slice_index_or, vec_capacity};
+ghost use Rattle.std.specs.Prelude.{◌≡◌, ◌≢◌, ℕ, ◌+◌, ◌-◌, ◌*◌, ◌^◌, ◌≤◌, ◌<◌, ◌==◌, [], ◌∷◌, ◌++◌, max, All, Contains, IfOk, IsOk, OnOk, OnErr, length, slice_index, slice_index_or, vec_capacity};
 ghost use Rattle.run_rules.specs.Caps.{binding_at, binds_at, bounds_at, least};
 ghost use Rattle.run_rules.specs.Speeds.{squared};
 ghost use Rattle.unit_rules.specs.Zone.{LiesOn};
@@ -131,6 +131,7 @@ impl Limits {
         ensures made { OnOk result (self.new ≡ rezoned self.old self.old.zones
             (max self.old.spare count)) }
         ensures refused { OnErr result (self.new ≡ self.old) }
+        ensures enough { count ≤ self.old.spare → IsOk result }
     {
         if count <= self.spare {
             return Ok(());

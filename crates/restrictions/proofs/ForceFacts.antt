@@ -1,15 +1,15 @@
 -- The restrictions in force: what is among them, and what a `put` and a `take` change of them.
-use Rattle.std.proofs.Common.{◌≡◌, ◌≤◌, ◌<◌, ◌+◌, ℕ, List, [], ◌∷◌, ◌++◌, Bool, true, false, not, cond, Some, None, Ok, Err, length, refl, ap, ◌∙◌, arith, inl, inr}
+use Rattle.std.proofs.Common.{◌≡◌, ◌≤◌, ◌<◌, ◌+◌, ℕ, List, [], ◌∷◌, ◌++◌, Bool, true, false, not, cond, Some, None, Ok, Err, length, get_or, slice_get, take, refl, ap, ◌∙◌, arith, inl, inr}
 use Rattle.std.proofs.lemmas.Bool.{cases_Bool, le-ltb, lt-ltb}
-use Rattle.std.proofs.lemmas.List.{map-append}
+use Rattle.std.proofs.lemmas.List.{map-append, map_push, take_more}
 use Rattle.std.proofs.lemmas.List.Elements.{filter-append}
 use Rattle.std.proofs.lemmas.List.Sums.{sum_by-cons}
-use Rattle.std.proofs.lemmas.Option.{none-some, same_Some}
+use Rattle.std.proofs.lemmas.Option.{get_or_from_slice_get, none-some, same_Some, slice_get_within}
 use Rattle.std.specs.List.{count_by, find}
 use Rattle.std.specs.Option.{option_map}
 use Rattle.unit_rules.specs.declared.Zone.{Zone}
-use Rattle.restrictions.specs.declared.force.EditFault.TheVariants.{Absent, Full, Present}
-use Rattle.restrictions.specs.Force.{AreDistinct, has_id, most_in_force, put_in, take_from, without, zone_of, zones_of}
+use Rattle.restrictions.specs.declared.force.EditFault.TheVariants.{Full, Present}
+use Rattle.restrictions.specs.Force.{AreDistinct, has_id, most_in_force, put_in, without, zone_of, zones_of}
 use Rattle.restrictions.proofs.FindFacts.{filter-none, find-none_append, find-none_head, find-none_skip, find-none_tail}
 use Rattle.restrictions.proofs.SeatFacts.{bytes_eq-back, not_found, same_from_bytes_eq}
 
@@ -56,13 +56,6 @@ put_in-full id zone pairs h l = rw (h, le-ltb (length pairs) most_in_force l) re
 pub put_in-made : (id : List ℕ) (zone : Zone) (pairs : List (List ℕ × Zone)) → zone_of id pairs ≡ None → length pairs < most_in_force → put_in id zone pairs ≡ Ok (pairs ++ (id, zone) ∷ [])
 put_in-made id zone pairs h l = rw (h, lt-ltb (length pairs) most_in_force l) refl
 
--- and so is a `take`
-pub take_from-absent : (id : List ℕ) (pairs : List (List ℕ × Zone)) → zone_of id pairs ≡ None → take_from id pairs ≡ Err Absent
-take_from-absent id pairs h = rw h refl
-
-pub take_from-made : (id : List ℕ) (z : Zone) (pairs : List (List ℕ × Zone)) → zone_of id pairs ≡ Some z → take_from id pairs ≡ Ok (without id pairs)
-take_from-made id z pairs h = rw h refl
-
 -- the zones after a `put`
 pub zones_of-push : (pairs : List (List ℕ × Zone)) (id : List ℕ) (zone : Zone) → zones_of (pairs ++ (id, zone) ∷ []) ≡ zones_of pairs ++ zone ∷ []
 zones_of-push pairs id zone = map-append (λ (p : List ℕ × Zone). p.1) pairs ((id, zone) ∷ [])
@@ -90,3 +83,10 @@ count_by-without t id z (p ∷ pairs) h e = elim (cases_Bool (has_id id p)) [
       let then = count_cons t p.1 (zones_of (without id pairs)) in
       rw left (omega (arith, first, then, rest))
 ]
+
+-- the zones of one more restriction
+pub zones_of-more : (pairs : List (List ℕ × Zone)) (place : ℕ) (p : List ℕ × Zone) → slice_get pairs place ≡ Some p → zones_of (take (place + 1) pairs) ≡ zones_of (take place pairs) ++ p.1 ∷ []
+zones_of-more pairs place p at =
+    let within = slice_get_within pairs place p at in
+    let here = get_or_from_slice_get pairs place p p at in
+    ap zones_of (take_more pairs place p within) ∙ map_push (λ (q : List ℕ × Zone). q.1) (take place pairs) (get_or pairs place p) ∙ ap (λ (q : List ℕ × Zone). zones_of (take place pairs) ++ q.1 ∷ []) here

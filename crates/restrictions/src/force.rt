@@ -1,7 +1,7 @@
 //! The restrictions in force.
 
-ghost use Rattle.std.specs.Prelude.{◌≡◌, ◌⊎◌, ◌+◌, ◌-◌, ◌≤◌, ◌<◌, [], IfErr, IfOk, OnErr, OnOk, Ok, Some, None, length, max, slice_get};
-ghost use Rattle.restrictions.specs.Force.{IsForce, ForceView, put_in, without, zone_of};
+ghost use Rattle.std.specs.Prelude.{◌≡◌, ◌⊎◌, ◌+◌, ◌-◌, ◌≤◌, ◌<◌, [], IfErr, IfOk, IsOk, OnErr, OnOk, Ok, Some, None, length, max, slice_get};
+ghost use Rattle.restrictions.specs.Force.{IsForce, ForceView, put_in, without, zone_of, zones_of};
 
 use crate::ids::Id;
 use crate::seats::{Seat, close_up, find_seat};
@@ -9,8 +9,8 @@ use std::alloc::Global;
 use std::marker::Model;
 use unit_rules::{Memory, Zone};
 
-/// The most restrictions that may be in force.
-pub const MOST_IN_FORCE: usize = 10_000;
+// The most restrictions that may be in force.
+const MOST_IN_FORCE: usize = 10_000;
 
 /// Why an edit is refused.
 #[derive(Clone, Copy, Debug, PartialEq, Eq)]
@@ -84,6 +84,21 @@ impl InForce {
         self.pairs[n as usize]
     }
 
+    /// The zones of those in force, in their order.
+    pub fn zones(&self) -> Result<Vec<Zone>, Memory>
+        ensures zones { IfOk result (λ zones. zones.items ≡ zones_of self.now.pairs) }
+        ensures force { IsForce self.now }
+    {
+        let mut zones = Vec::new(*self.pairs.allocator());
+        for place in 0..self.len() {
+            let (_id, zone) = self.nth(place);
+            let Ok(()) = zones.push(zone) else {
+                return Err(Memory);
+            };
+        }
+        Ok(zones)
+    }
+
     /// The zone of that ID; `None` exactly where it isn't in force.
     pub fn get(&self, id: Id) -> Option<Zone>
         ensures zone { result ≡ zone_of id self.now.pairs }
@@ -103,6 +118,7 @@ impl InForce {
           spare = max self.old.spare count;
         }) }
         ensures refused { OnErr result (self.new ≡ self.old) }
+        ensures enough { count ≤ self.old.spare → IsOk result }
         ensures force { IsForce self.new }
     {
         if count <= self.spare {

@@ -12,5 +12,5 @@ mod words;
 
 pub use commands::{Command, CommandFault, read_command};
 pub use edits::{EditsFault, read_edits};
-pub use force::{EditFault, InForce, MOST_IN_FORCE};
+pub use force::{EditFault, InForce};
 pub use ids::Id;
