@@ -43,10 +43,31 @@ pub fn rule_by(line: &Line, stock: Stock, pulls: Vec<i64>) -> Rule
     Rule::new(push, brake, moved, pulls)
 }
 
-/// The step rule of a train on a line.
-pub fn rule_on(alloc: Global, line: &Line, stock: Stock) -> Result<Rule, Memory>
+/// The limits and the step rule of a train on a line by a plan, under restrictions beside the line's
+/// own limits.
+pub fn course_on(
+    alloc: Global,
+    line: &Line,
+    stock: Stock,
+    plan: &Plan,
+    restrictions: &[Zone],
+) -> Result<(Limits, Rule), Memory>
+    requires plan { PlanLiesOn line.now.length plan.now }
+    requires restrictions { All (LiesOn line.now.length) restrictions.now }
+    ensures profile { IfOk result (λ both. both.0 ≡ case_profile line.now stock
+        restrictions.now (bounds_of plan.now line.now.length)) }
+    ensures motion { IfOk result (λ both. both.1 ≡ train_motion line.now stock) }
+    ensures cells { IfOk result (λ both. cells_of both.1 ≡ line.now.length) }
+    ensures top { IfOk result (λ both. kmh_of both.1 ≡ stock.top) }
+{
+    let limits = plan_limits(alloc, line, &stock, plan, restrictions)?;
+    let rule = rule_on(alloc, line, stock)?;
+    Ok((limits, rule))
+}
+
+// The step rule of a train on a line.
+fn rule_on(alloc: Global, line: &Line, stock: Stock) -> Result<Rule, Memory>
     ensures motion { IfOk result (λ rule. rule ≡ train_motion line.now stock) }
-    ensures rule { IfOk result (λ rule. step_rule_of rule ≡ train_rule line.now stock) }
     ensures cells { IfOk result (λ rule. cells_of rule ≡ line.now.length) }
     ensures top { IfOk result (λ rule. kmh_of rule ≡ stock.top) }
 {
@@ -54,8 +75,8 @@ pub fn rule_on(alloc: Global, line: &Line, stock: Stock) -> Result<Rule, Memory>
     Ok(rule_by(line, stock, pulls))
 }
 
-/// The limits of a train on a line by a plan, under restrictions beside the line's own limits.
-pub fn plan_limits(
+// The limits of a train on a line by a plan, under restrictions beside the line's own limits.
+fn plan_limits(
     alloc: Global,
     line: &Line,
     stock: &Stock,

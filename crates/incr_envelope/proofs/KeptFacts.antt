@@ -1,5 +1,5 @@
 -- What the fields of an envelope keep, and what contracts see of it.
-use Rattle.std.proofs.Common.{◌≡◌, ℕ, ◌+◌, ◌-◌, ◌<◌, ◌≤◌, min, [], ◌∷◌, ◌++◌, List, length, slice_index, take, count_by, get_or-take, All, Some, Ok, is_some, nat_lt, inl, inr, ap, refl, subst, sym, ◌∙◌, arith}
+use Rattle.std.proofs.Common.{◌≡◌, ℕ, ◌+◌, ◌-◌, ◌<◌, ◌≤◌, max, min, [], ◌∷◌, ◌++◌, List, length, slice_index, take, count_by, get_or-take, All, Some, Ok, is_some, nat_lt, inl, inr, ap, refl, subst, sym, ◌∙◌, arith}
 use Rattle.std.proofs.Math.Seq.{take-length}
 use Rattle.std.proofs.lemmas.Bool.{cases_Bool, lt-ltb}
 use Rattle.std.proofs.lemmas.List.{length-take, length-take-le}
@@ -34,7 +34,7 @@ pub caps-kept : (f : Fields) → AreLimits f → caps f.limits ≡ caps_under f.
 caps-kept f limits = rw (limits.metres, limits.train, limits.bounds) (caps_of-same f.line.length f.train f.limits.top f.limits.zones (f.line.limits ++ zones_of f.force.pairs) (bounds_of f.plan f.line.length) limits.zones)
 
 -- an envelope is one by its known numbers alone
-ReachesAs-known : (rule : StepRule) (x e : List ℕ) (reach : Reach) (points : ℕ) → length e ≡ points → ReachesAs rule x e reach → ReachesAs rule x (take (count_of points reach) e) reach
+pub ReachesAs-known : (rule : StepRule) (x e : List ℕ) (reach : Reach) (points : ℕ) → length e ≡ points → ReachesAs rule x e reach → ReachesAs rule x (take (count_of points reach) e) reach
 ReachesAs-known rule x e Whole points long run = let all : take points e ≡ e = rw long at (take-length e) in rw all run
 ReachesAs-known rule x e (Stalled k) points long (stall, envelope) =
     let twice : take k (take k e) ≡ take k e = rw envelope.long at (take-length (take k e)) in
@@ -148,6 +148,11 @@ IsKept-reserved f limits force spare kept same is_force pairs room limits_room =
     let lie = subst (λ (ps : List (List ℕ × Zone)). All (LiesOn f.line.length) (zones_of ps)) (sym pairs) kept.scratch.zones_lie in
     let fastest = subst (λ (x : List ℕ). IsFastest (step_rule_of f.motion) (cells_of f.motion) (most_of f.motion) x f.run) (sym (ap caps same)) kept.fastest in
     IsKept-changed f limits force spare f.run kept rezoned_same those is_force lie room limits_room fastest
+
+-- and where the limits alone have more room
+pub IsKept-room : (f : Fields) (limits : Profile) (n : ℕ) → IsKept f → limits ≡ rezoned f.limits f.limits.zones (max f.limits.spare n) → IsKept (record f { limits = limits })
+IsKept-room f limits n kept made =
+    IsKept-reserved f limits f.force f.spare kept (rw made refl) kept.force refl kept.force_spare (rw made (omega (arith, kept.limits_spare)))
 
 -- what is in force after a put that is accepted
 pub put_in-pairs : (id : List ℕ) (z : Zone) (pairs after : List (List ℕ × Zone)) → put_in id z pairs ≡ Ok after → after ≡ pairs ++ (id, z) ∷ []

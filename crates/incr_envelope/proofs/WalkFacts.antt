@@ -10,7 +10,6 @@ use Rattle.run_rules.specs.Runs.{IsBrakingList, ReachesAs, StepRule}
 use Rattle.run_rules.specs.Walks.{IsGreatestAt, IsGreatestNumber}
 use Rattle.unit_rules.specs.Limits.{greatest_speed, greatest_squared_speed}
 use Rattle.incr_envelope.specs.Runs.{WasFastest}
-use Rattle.incr_envelope.specs.declared.run.Drive.{Drive}
 use Rattle.incr_envelope.specs.declared.run.Run.{Run}
 
 -- the greatest number at a point hangs on the cap there alone
@@ -42,8 +41,3 @@ caps-small limits fast i l =
     let at_i = slice_index-caps limits i on in
     let most = rw squared-500 at (squared-mono limits.top 500 fast) in
     omega (arith, capped, at_i, most)
-
--- a drive under a braking list is one under the caps of which this is the list
-pub reaches-under : {E : Type 0} (r : Result Drive E) (rule : StepRule) (x c : List ℕ) → IsBrakingList rule x c → IfOk r (λ d. ReachesUnderCaps rule c d.speeds.items d.reach) → IfOk r (λ d. ReachesAs rule x d.speeds.items d.reach)
-reaches-under (Ok d) rule x c list under = under x list
-reaches-under (Err e) rule x c list under = tt

@@ -3,11 +3,13 @@
 use time_brackets::Sums;
 use unit_rules::Reach;
 
-/// How far a train gets, and its greatest squared speeds by point, in (0.01 km/h)²; those from a
-/// stalled point on mean nothing.
+/// The fastest run of a train, or what goes before its stall: squared speeds by point, in
+/// (0.01 km/h)².
 #[derive(Drop)]
 pub struct Drive {
-    /// The squared speeds, one for each point of the line.
+    /// The braking list: the greatest ones from which the train can brake for all that is ahead.
+    pub brakes: Vec<u32>,
+    /// The greatest ones of the train, up to the end of the line or to the stall.
     pub speeds: Vec<u32>,
     /// How far the train gets.
     pub reach: Reach,

@@ -7,12 +7,14 @@ ghost use Rattle.step_rule.specs.Motion.{cells_of, kmh_of};
 ghost use Rattle.incr_envelope.specs.Envelope.{caps_under};
 ghost use Rattle.plan_tables.specs.Plan.{PlanLiesOn};
 ghost use Rattle.restrictions.specs.Force.{IsForce, zones_of};
-ghost use Rattle.run_rules.specs.Runs.{IsBrakingList, ReachesAs};
+ghost use Rattle.run_rules.specs.Runs.{IsBrakingList, IsMonotone, ReachesAs};
+ghost use Rattle.run_rules.specs.Speeds.{squared};
+ghost use Rattle.run_rules.specs.Walks.{count_of};
 ghost use Rattle.unit_rules.specs.Zone.{LiesOn};
 
 use crate::run::Drive;
-use crate::walks::{walked_back, walked_on};
-use case_rules::{plan_limits, rule_on};
+use crate::walks::{known_by, walked_back, walked_on};
+use case_rules::course_on;
 use limit_profile::Limits;
 use line_tables::Line;
 use plan_tables::Plan;
@@ -44,7 +46,7 @@ pub fn braking_list<L: Ledger>(
 }
 
 /// The fastest run of a train over a line by a plan under the restrictions in force, or what goes
-/// before its stall.
+/// before its stall, and its braking list.
 pub fn drive<L: Ledger>(
     alloc: Global,
     line: &Line,
@@ -55,14 +57,25 @@ pub fn drive<L: Ledger>(
 ) -> Result<Drive, Memory>
     requires plan { PlanLiesOn line.now.length plan.now }
     requires zones { All (LiesOn line.now.length) (zones_of force.now.pairs) }
+    ensures monotone { IfOk result (λ _. IsMonotone (train_rule line.now stock)
+        line.now.length (squared stock.top)) }
+    ensures brakes { IfOk result (λ d. IsBrakingList (train_rule line.now stock)
+        (caps_under line.now stock plan.now force.now.pairs) d.brakes.items) }
     ensures reaches { IfOk result (λ d. ReachesAs (train_rule line.now stock)
         (caps_under line.now stock plan.now force.now.pairs) d.speeds.items d.reach) }
-    ensures long { IfOk result (λ d. length d.speeds.items ≡ line.now.length + 1) }
+    ensures known { IfOk result
+        (λ d. length d.speeds.items ≡ count_of (line.now.length + 1) d.reach) }
     ensures cost { steps.new ≤ steps.old + (33 * (line.now.length + 1) + line.now.length) }
 {
     let (limits, rule) = course_of(alloc, line, stock, plan, force)?;
     let brakes = walked_back(alloc, &rule, &limits, steps)?;
-    walked_on(alloc, &rule, &brakes, steps)
+    let (mut speeds, reach) = walked_on(alloc, &rule, &brakes, steps)?;
+    speeds.truncate(known_by(reach, rule.cells()) as usize);
+    Ok(Drive {
+        brakes,
+        speeds,
+        reach,
+    })
 }
 
 // The limits and the step rule of a train on a line by a plan, under the restrictions in force.
@@ -82,25 +95,6 @@ pub(crate) fn course_of(
     ensures top { IfOk result (λ both. kmh_of both.1 ≡ stock.top) }
     ensures force { IsForce force.now }
 {
-    let limits = limits_under(alloc, line, &stock, plan, force)?;
-    let rule = rule_on(alloc, line, stock)?;
-    Ok((limits, rule))
-}
-
-// The limits of a train on a line by a plan, under the restrictions in force.
-fn limits_under(
-    alloc: Global,
-    line: &Line,
-    stock: &Stock,
-    plan: &Plan,
-    force: &InForce,
-) -> Result<Limits, Memory>
-    requires plan { PlanLiesOn line.now.length plan.now }
-    requires zones { All (LiesOn line.now.length) (zones_of force.now.pairs) }
-    ensures limits { IfOk result (λ limits. limits ≡ case_profile line.now stock.now
-        (zones_of force.now.pairs) (bounds_of plan.now line.now.length)) }
-    ensures force { IsForce force.now }
-{
     let zones = force.zones()?;
-    plan_limits(alloc, line, stock, plan, &zones)
+    course_on(alloc, line, stock, plan, &zones)
 }

@@ -10,7 +10,7 @@ ghost use Rattle.step_rule.specs.Motion.{cells_of, kmh_of, most_of, step_rule_of
 ghost use Rattle.incr_envelope.specs.Runs.{IsFastest, WasFastest, is_within, lists_of};
 ghost use Rattle.incr_envelope.specs.Touched.{touched};
 
-use crate::run::{Drive, Run};
+use crate::run::Run;
 use brake_caps::walk_back;
 use effort_run::walk_on;
 use limit_profile::Limits;
@@ -43,20 +43,21 @@ pub(crate) fn walked_back<L: Ledger>(
     Ok(list)
 }
 
-// The drive under a rule and a braking list.
+// The squared speeds under a rule and a braking list, and how far the train gets. Those from a stalled
+// point on mean nothing.
 pub(crate) fn walked_on<L: Ledger>(
     alloc: Global,
     rule: &Rule,
     brakes: &[u32],
     steps: &mut Steps<L>,
-) -> Result<Drive, Memory>
+) -> Result<(Vec<u32>, Reach), Memory>
     requires brakes { IsOwnBrakingList (step_rule_of rule.now) (cells_of rule.now)
         (most_of rule.now) brakes.now }
-    ensures long { IfOk result (λ d. length d.speeds.items ≡ cells_of rule.now + 1) }
-    ensures own { IfOk result (λ d.
-        ReachesAs (step_rule_of rule.now) brakes.now d.speeds.items d.reach) }
-    ensures under_caps { IfOk result (λ d.
-        ReachesUnderCaps (step_rule_of rule.now) brakes.now d.speeds.items d.reach) }
+    ensures long { IfOk result (λ both. length both.0.items ≡ cells_of rule.now + 1) }
+    ensures own { IfOk result (λ both.
+        ReachesAs (step_rule_of rule.now) brakes.now both.0.items both.1) }
+    ensures under_caps { IfOk result (λ both.
+        ReachesUnderCaps (step_rule_of rule.now) brakes.now both.0.items both.1) }
     ensures cost { steps.new ≤ steps.old + cells_of rule.now }
 {
     let cells = rule.cells();
@@ -64,10 +65,7 @@ pub(crate) fn walked_on<L: Ledger>(
         return Err(Memory);
     };
     let walk = walk_on(rule, brakes, 0, cells, &mut speeds, 0, steps);
-    Ok(Drive {
-        speeds,
-        reach: walk.reach,
-    })
+    Ok((speeds, walk.reach))
 }
 
 // The fastest run under a rule and the limits of its line.
@@ -86,14 +84,13 @@ pub(crate) fn first_run<L: Ledger>(
 {
     let cells = rule.cells();
     let brakes = walked_back(alloc, rule, limits, steps)?;
-    let drive = walked_on(alloc, rule, &brakes, steps)?;
+    let (speeds, reach) = walked_on(alloc, rule, &brakes, steps)?;
     let mut sums = Sums::new(alloc, cells)?;
-    let known = known_by(drive.reach, cells);
-    sums.redo(0, cells, &drive.speeds, known, steps);
+    sums.redo(0, cells, &speeds, known_by(reach, cells), steps);
     Ok(Run {
         brakes,
-        speeds: drive.speeds,
-        reach: drive.reach,
+        speeds,
+        reach,
         sums,
     })
 }

@@ -11,13 +11,13 @@ pub redo-requires-clause-moving : goal.redo-requires-clause-moving
 redo-requires-clause-moving g c =
     let limits = c.args.limits.now in
     let points = length-caps limits in
-    let drive = c.in_ok-drive.drive in
+    let both = c.in_ok-speeds in
     let kept = c.cells-cells.ensures.kept in
     let small = caps-small limits (omega (arith, c.requires.same_top, kept.push_lawful.in_range.few)) in
     let cells : c.cells-cells.result + 1 ≡ length (caps limits) = omega (arith, points, c.cells-cells.ensures.cells, c.requires.same_length) in
-    let own = c.in_ok-drive.ensures.long in
-    let long : length drive.speeds.items ≡ cells_of c.args.rule.now + 1 = own in
-    let all : length drive.speeds.items ≡ length (caps limits) = omega (arith, long, cells, c.cells-cells.ensures.cells) in
-    let under : ReachesUnderCaps (step_rule_of c.args.rule.now) c.in_ok-brakes.brakes.items drive.speeds.items drive.reach = rw c.deref.ensures.value at c.in_ok-drive.ensures.under_caps in
+    let own = both.ensures.long in
+    let long : length both.speeds.items ≡ cells_of c.args.rule.now + 1 = own in
+    let all : length both.speeds.items ≡ length (caps limits) = omega (arith, long, cells, c.cells-cells.ensures.cells) in
+    let under : ReachesUnderCaps (step_rule_of c.args.rule.now) c.in_ok-brakes.brakes.items both.speeds.items both.reach = rw c.deref.ensures.value at both.ensures.under_caps in
     let reaches = under (caps limits) c.in_ok-brakes.ensures.list in
-    rw (c.deref-2.ensures.value, c.known_by-known.ensures, cells) (IsMoving-reaches (step_rule_of c.args.rule.now) (caps limits) drive.speeds.items drive.reach reaches small all)
+    rw (c.deref-2.ensures.value, c.known_by.ensures, cells) (IsMoving-reaches (step_rule_of c.args.rule.now) (caps limits) both.speeds.items both.reach reaches small all)
