@@ -1,12 +1,11 @@
 -- What stands of a run where the caps changed.
-use Rattle.std.proofs.Common.{◌≡◌, ◌++◌, ℕ, ◌<◌, ◌≤◌, List, length, slice_index, take, drop, ◌⊎◌, Result, Ok, Err, IfOk, arith}
+use Rattle.std.proofs.Common.{◌≡◌, ◌++◌, ℕ, ◌<◌, ◌≤◌, List, length, slice_index, take, drop, ◌⊎◌, arith}
 use Rattle.std.proofs.lemmas.Grind.{common_steps}
 use Rattle.limit_profile.proofs.CapFacts.{cap-le, length-caps, slice_index-caps}
 use Rattle.limit_profile.specs.Profile.{Profile, caps}
 use Rattle.run_rules.proofs.BrakingFacts.{points_by_braking_list}
 use Rattle.run_rules.proofs.SpeedFacts.{squared-500, squared-mono}
-use Rattle.run_rules.specs.Drives.{ReachesUnderCaps}
-use Rattle.run_rules.specs.Runs.{IsBrakingList, ReachesAs, StepRule}
+use Rattle.run_rules.specs.Runs.{StepRule}
 use Rattle.run_rules.specs.Walks.{IsGreatestAt, IsGreatestNumber}
 use Rattle.unit_rules.specs.Limits.{greatest_speed, greatest_squared_speed}
 use Rattle.incr_envelope.specs.Runs.{WasFastest}

@@ -1,7 +1,7 @@
 use Rattle.std.proofs.Common.{◌≡◌, ◌∙◌, ◌+◌, ap, length}
 use Rattle.limit_profile.specs.Profile.{caps}
 use Rattle.run_rules.specs.Drives.{ReachesUnderCaps}
-use Rattle.run_rules.specs.Runs.{IsBrakingList, ReachesAs}
+use Rattle.run_rules.specs.Runs.{IsBrakingList}
 use Rattle.run_rules.specs.Walks.{count_of}
 use Rattle.step_rule.specs.Motion.{step_rule_of}
 use Rattle.case_rules.specs.Case.{train_rule}

@@ -1,0 +1,4 @@
+use Rattle.incr_envelope.proofs.tests.a_slower_one_hides_another.Given as goal
+
+abbrev pub ghosts-put_and_take : goal.ghosts-put_and_take
+ghosts-put_and_take g a = record { name = a.blank.name; parts = a.blank.parts }
