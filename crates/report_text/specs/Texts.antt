@@ -36,3 +36,7 @@ bands_text stock = train_line stock ++ lines_below (speed_line stock) (stock.top
 abbrev pub reach_text : Reach → List ℕ
 reach_text Whole = codes "whole\n"
 reach_text (Stalled k) = codes "stalled " ++ decimal k ++ codes "\n"
+
+-- that a certificate which says so is right
+abbrev pub valid_text : Reach → List ℕ
+valid_text reach = codes "valid " ++ reach_text reach

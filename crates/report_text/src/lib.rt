@@ -5,7 +5,7 @@
 ghost use Rattle.std.specs.Prelude.{◌≡◌, ◌≤◌, ◌+◌, ◌++◌, [], length, slice_index, OnOk, OnErr};
 ghost use Rattle.run_io.specs.Texts.{numbers_text, piece};
 ghost use Rattle.run_io.specs.Told.{HasCause, Writes, WritesFront};
-ghost use Rattle.report_text.specs.Texts.{bands_line, bands_text, list_text, point_line, reach_text, speed_line, train_line};
+ghost use Rattle.report_text.specs.Texts.{bands_line, bands_text, list_text, point_line, reach_text, speed_line, train_line, valid_text};
 
 mod timetable;
 
@@ -145,6 +145,19 @@ pub fn write_reach<K: Sink>(out: &mut K, reach: Reach) -> Result<(), Failed>
 {
     let mut block = Block::new();
     put_reach(&mut block, reach);
+    block.flush(out)
+}
+
+/// Writes `valid whole` or `valid stalled K`, and a line end: that a certificate of this reach is right.
+pub fn write_valid<K: Sink>(out: &mut K, reach: Reach) -> Result<(), Failed>
+    ensures ok { OnOk result (Writes (K.told out.old) (K.told out.new) (valid_text reach)) }
+    ensures failed { OnErr result (WritesFront (K.told out.old) (K.told out.new)
+        (valid_text reach)) }
+    ensures cause { HasCause (K.told out.old) (K.told out.new) result }
+{
+    let mut block = Block::new();
+    put_reach(&mut block, reach);
+    block.put(b"valid ");
     block.flush(out)
 }
 

@@ -3,12 +3,12 @@ use Rattle.std.proofs.Common.{ℕ, List, [], Option, Some, None}
 use Rattle.plan_tables.specs.Plan.{empty_plan}
 use Rattle.run_io.specs.Fetches.{Files}
 use Rattle.run_words.specs.Requests.{Request, request_of}
-use Rattle.run_words.specs.Requests.Request.{Caps, Stock, Rise, Brakes, Envelope, Plan}
+use Rattle.run_words.specs.Requests.Request.{Caps, Stock, Rise, Brakes, Envelope, Plan, Check}
 use Rattle.run_cli.specs.FileLaws.{alone}
-use Rattle.run_cli.specs.Files.{case_names, refusal}
+use Rattle.run_cli.specs.Files.{refusal}
 use Rattle.run_cli.specs.Forms.{WordsAnswerOnce, meaning_of, meant_by}
 use Rattle.run_cli.specs.Meanings.{IsOnce, IsSilent, Meaning}
-use Rattle.run_cli.proofs.OnceFacts.{AnswersBy-once, ByBoth-once, ByCase-once, ByLine-once, ByStock-once, Is-once, IsBrakes-once, IsEnvelope-once, plan_answer-once}
+use Rattle.run_cli.proofs.OnceFacts.{AnswersBy-once, ByBoth-once, ByCase-once, ByClaim-once, ByLine-once, ByStock-once, Is-once, IsBrakes-once, IsChecked-once, IsEnvelope-once, plan_answer-once}
 
 record IsLawful (m : Meaning) : Type 0 where
   once : (files : Files) (input : List ℕ) → IsOnce (m.answers files input)
@@ -26,8 +26,10 @@ form_facts (Some (Brakes line stock)) =
     record { once = λ files input. ByBoth-once line stock files _ IsBrakes-once; silent = (alone _ _ _ _).quiet }
 form_facts (Some (Envelope line stock)) =
     record { once = λ files input. ByBoth-once line stock files _ (λ table train. IsEnvelope-once table train empty_plan []); silent = (alone _ _ _ _).quiet }
-form_facts (Some (Plan line stock plan kind edits)) =
-    record { once = λ files input. ByCase-once (case_names line stock plan edits) files _ (plan_answer-once kind); silent = (alone _ _ _ _).quiet }
+form_facts (Some (Plan names kind)) =
+    record { once = λ files input. ByCase-once names files _ (plan_answer-once kind); silent = (alone _ _ _ _).quiet }
+form_facts (Some (Check names cert)) =
+    record { once = λ files input. ByClaim-once names cert files _ IsChecked-once; silent = (alone _ _ _ _).quiet }
 
 pub answers_once : WordsAnswerOnce
 answers_once words files input =

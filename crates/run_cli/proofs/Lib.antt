@@ -1,5 +1,6 @@
 pub mod ServeFacts
 pub mod LoadFacts
 pub mod OnceFacts
+pub mod CertFacts
 pub mod FormFacts
 mod TimeFacts

@@ -5,7 +5,7 @@ use Rattle.case_rules.specs.Case.{train_rule}
 use Rattle.incr_envelope.specs.Envelope.{caps_under}
 use Rattle.line_tables.specs.Line.{LineView}
 use Rattle.plan_tables.specs.Plan.{PlanView, empty_plan}
-use Rattle.report_text.specs.Texts.{list_text, reach_text}
+use Rattle.report_text.specs.Texts.{list_text, reach_text, valid_text}
 use Rattle.report_text.specs.Timetables.{timetable_text}
 use Rattle.allowances.specs.Rows.{rows_of}
 use Rattle.run_io.specs.Fetches.{Files}
@@ -15,15 +15,21 @@ use Rattle.stock_tables.specs.Stock.{StockView}
 use Rattle.unit_rules.specs.declared.Zone.{Zone}
 use Rattle.unit_rules.specs.declared.Reach.TheVariants as reach
 use Rattle.run_cli.specs.Brakes.{IsBrakes}
-use Rattle.run_cli.specs.Envelope.{IsEnvelope}
-use Rattle.run_cli.specs.FileForms.{ByBoth, ByCase, ByEdits, CaseAnswer, ByLine, ByPlan, ByStock}
-use Rattle.run_cli.specs.Files.{CaseNames, edits_reading, line_reading, plan_reading, stock_reading, table_in}
-use Rattle.run_cli.specs.Plan.{IsTimetable, plan_answer}
+use Rattle.run_cli.specs.Envelope.{IsEnvelope, envelope_status}
+use Rattle.cert_check.proofs.FaultFacts.{IsFirstBroken-once, IsFirstBroken-uncertified}
+use Rattle.cert_check.proofs.OnceFacts.{brakes_once, reaches_once}
+use Rattle.certificate.specs.Texts.{CertView, cert_text}
+use Rattle.run_words.specs.Requests.{CaseNames}
+use Rattle.run_cli.specs.Check.{IsChecked}
+use Rattle.run_cli.specs.FileForms.{ByBoth, ByCase, ByCert, ByClaim, ByEdits, CaseAnswer, ClaimAnswer, ByLine, ByPlan, ByStock}
+use Rattle.run_cli.specs.Files.{cert_reading, edits_reading, line_reading, plan_reading, stock_reading, table_in}
+use Rattle.run_cli.specs.Plan.{IsTimetable, ShowsCertificate, plan_answer}
 use Rattle.run_words.specs.declared.requests.Print.{Print}
 use Rattle.run_words.specs.declared.requests.Print.TheVariants as print
 use Rattle.run_cli.specs.Meanings.{Answer, AnswersBy, Is, IsOnce}
+use Rattle.run_cli.specs.Statuses.{status_text}
 use Rattle.run_cli.specs.declared.status.Status.{Status}
-use Rattle.run_cli.specs.declared.status.Status.TheVariants.{Stalled}
+use Rattle.run_cli.specs.declared.status.Status.TheVariants.{Done, NotValid, Stalled}
 
 pub Is-once : (status : Status) (text : List ℕ) → IsOnce (Is status text)
 Is-once status text s r t u a b = record { one_status = a.status_is ∙ sym b.status_is; one_text = a.text_is ∙ sym b.text_is }
@@ -68,6 +74,16 @@ ByCase-once names files next once =
     ByBoth-once names.line names.stock files (λ line stock. ByPlan line names.plan (λ plan. ByEdits line names.edits (next line stock plan) files) files)
     (λ line stock. ByPlan-once line names.plan files (λ plan. ByEdits line names.edits (next line stock plan) files) (λ plan. ByEdits-once line names.edits files (next line stock plan) (once line stock plan)))
 
+ByCert-once : (name : List ℕ) (files : Files) (next : CertView → Answer) → ((cert : CertView) → IsOnce (next cert)) → IsOnce (ByCert name next files)
+ByCert-once name files next once s r t u a b =
+    once a.0 s r t u a.2 (subst (λ (q : CertView). next q r u) (Some-same (table_in cert_reading (files name)) b.0 a.0 b.1 a.1) b.2)
+
+pub ByClaim-once : (names : CaseNames) (cert_name : List ℕ) (files : Files) (next : ClaimAnswer) → ((line : LineView) (stock : StockView) (plan : PlanView) (force : List (List ℕ × Zone)) (cert : CertView) → IsOnce (next line stock plan force cert))
+    → IsOnce (ByClaim names cert_name next files)
+ByClaim-once names cert_name files next once =
+    ByCase-once names files (λ line stock plan force. ByCert cert_name (next line stock plan force) files)
+    (λ line stock plan force. ByCert-once cert_name files (next line stock plan force) (once line stock plan force))
+
 -- two lists of which each is at most the other are one
 AtMost-both : (a b : List ℕ) (n : ℕ) → length a ≡ n → length b ≡ n → AtMost a b n → AtMost b a n → a ≡ b
 AtMost-both a b n long same less more =
@@ -105,6 +121,31 @@ IsTimetable-once table train plan force s r t u (inl a) (inr b) = absurd (runs_o
 IsTimetable-once table train plan force s r t u (inr a) (inl b) = absurd (runs_or_stalls (train_rule table train) (caps_under table train plan force) b.list a.stall.point b.is_list.run a.stall.is_stalled)
 IsTimetable-once table train plan force s r t u (inr a) (inr b) = IsEnvelope-once table train plan force s r t u (inr a.stall) (inr b.stall)
 
+pub ShowsCertificate-once : (table : LineView) (train : StockView) (plan : PlanView) (force : List (List ℕ × Zone)) → IsOnce (ShowsCertificate table train plan force)
+ShowsCertificate-once table train plan force s r t u a b =
+    let x = caps_under table train plan force in
+    let rule = train_rule table train in
+    let list = brakes_once rule x a.cert.c b.cert.c a.right.brakes b.right.brakes in
+    let rest = reaches_once rule x a.cert.e b.cert.e a.cert.verdict b.cert.verdict a.right.reaches a.right.long b.right.reaches b.right.long in
+    record {
+      one_status = a.is.status_is ∙ ap envelope_status rest.1 ∙ sym b.is.status_is;
+      one_text = a.is.text_is ∙ (λ k. cert_text (list k) (rest.0 k) (rest.1 k)) ∙ sym b.is.text_is;
+    }
+
+pub IsChecked-once : (table : LineView) (train : StockView) (plan : PlanView) (force : List (List ℕ × Zone)) (cert : CertView) → IsOnce (IsChecked table train plan force cert)
+IsChecked-once table train plan force cert s r t u (inl a) (inl b) = Is-once Done (valid_text cert.verdict) s r t u a.is b.is
+IsChecked-once table train plan force cert s r t u (inl a) (inr b) =
+    absurd (IsFirstBroken-uncertified (train_rule table train) (caps_under table train plan force) cert.c cert.e cert.verdict b.point b.rule b.first a.certified)
+IsChecked-once table train plan force cert s r t u (inr a) (inl b) =
+    absurd (IsFirstBroken-uncertified (train_rule table train) (caps_under table train plan force) cert.c cert.e cert.verdict a.point a.rule a.first b.certified)
+IsChecked-once table train plan force cert s r t u (inr a) (inr b) =
+    let same = IsFirstBroken-once (train_rule table train) (caps_under table train plan force) cert.c cert.e cert.verdict a.point a.rule b.point b.rule a.first b.first in
+    record {
+      one_status = a.is.status_is ∙ (λ k. NotValid (same.1 k) (same.0 k)) ∙ sym b.is.status_is;
+      one_text = a.is.text_is ∙ (λ k. status_text (NotValid (same.1 k) (same.0 k))) ∙ sym b.is.text_is;
+    }
+
 pub plan_answer-once : (kind : Print) (table : LineView) (train : StockView) (plan : PlanView) (force : List (List ℕ × Zone)) → IsOnce (plan_answer kind table train plan force)
 plan_answer-once print.Envelope table train plan force = IsEnvelope-once table train plan force
 plan_answer-once print.Timetable table train plan force = IsTimetable-once table train plan force
+plan_answer-once print.Cert table train plan force = ShowsCertificate-once table train plan force

@@ -28,19 +28,19 @@ use Rattle.unit_rules.specs.declared.Reach.{Reach}
 use Rattle.unit_rules.specs.declared.Reach.TheVariants as reach
 use Rattle.run_cli.specs.Plan.{IsTimed, IsTimetable, NoneIsSooner, found_status, found_text}
 use Rattle.run_cli.specs.declared.report.PlanReport.{PlanReport}
-use Rattle.run_cli.specs.declared.report.PlanReport.TheVariants.{Speeds, Stall, Times}
+use Rattle.run_cli.specs.declared.report.PlanReport.TheVariants.{Cert, Speeds, Stall, Times}
 use Rattle.run_cli.specs.declared.status.Status.TheVariants.{Stalled}
 
 -- the squares of speeds that a train may have are small
 pub squared-small : (kmh : ℕ) → kmh ≤ greatest_speed → squared kmh ≤ greatest_squared_speed
 squared-small kmh h = rw squared-500 at (squared-mono kmh 500 h)
 
-length-caps_under : (line : LineView) (stock : StockView) (plan : PlanView) (force : List (List ℕ × Zone)) → length (caps_under line stock plan force) ≡ line.length + 1
+pub length-caps_under : (line : LineView) (stock : StockView) (plan : PlanView) (force : List (List ℕ × Zone)) → length (caps_under line stock plan force) ≡ line.length + 1
 length-caps_under line stock plan force =
     length-map-range_with_len (cap_at line.length stock.length stock.top (line.limits ++ zones_of force) (bounds_of plan line.length)) 0 (line.length + 1)
 
 -- no cap is past the train's top speed
-caps_under-le : (line : LineView) (stock : StockView) (plan : PlanView) (force : List (List ℕ × Zone)) (i : ℕ) → i < line.length + 1 → slice_index (caps_under line stock plan force) i ≤ squared stock.top
+pub caps_under-le : (line : LineView) (stock : StockView) (plan : PlanView) (force : List (List ℕ × Zone)) (i : ℕ) → i < line.length + 1 → slice_index (caps_under line stock plan force) i ≤ squared stock.top
 caps_under-le line stock plan force i h =
     rw (get_or-map-range_with_len (cap_at line.length stock.length stock.top (line.limits ++ zones_of force) (bounds_of plan line.length)) 0 (line.length + 1) i i 0 h (omega arith))
     (least-le (squared stock.top) _)
@@ -73,6 +73,7 @@ stalled e (reach.Stalled j) k fast same h =
 -- the timetable of an envelope, or its stall, is what is meant
 timed-IsTimetable : (e : EnvelopeView) (r : PlanReport) → e.stock.top ≤ greatest_speed → IsFromScratch e → IsTimed e r → IsTimetable e.line e.stock e.plan e.force (found_status r) (found_text r)
 timed-IsTimetable e (Speeds r) fast kept timed = absurd timed
+timed-IsTimetable e (Cert r) fast kept timed = absurd timed
 timed-IsTimetable e (Stall k) fast kept timed = stalled e e.reach k fast timed kept.reaches
 timed-IsTimetable e (Times r) fast kept (whole, same, rows) =
     let greatest = rw whole at kept.reaches in

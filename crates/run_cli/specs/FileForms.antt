@@ -5,11 +5,13 @@ use Rattle.plan_tables.specs.Plan.{PlanView}
 use Rattle.stock_tables.specs.Stock.{StockView}
 use Rattle.unit_rules.specs.declared.Zone.{Zone}
 use Rattle.run_io.specs.Fetches.{Files}
-use Rattle.run_cli.specs.Files.{CaseNames, File, case_files, edits_reading, line_file, line_reading, most_cells, plan_reading, stock_file, stock_reading, table_in}
+use Rattle.certificate.specs.Texts.{CertView}
+use Rattle.run_words.specs.Requests.{CaseNames}
+use Rattle.run_cli.specs.Files.{File, case_files, cert_reading, claim_files, edits_reading, line_file, line_reading, most_cells, plan_reading, stock_file, stock_reading, table_in}
 use Rattle.run_cli.specs.Meanings.{Answer, Is, Meaning}
 use Rattle.run_cli.specs.Statuses.{status_text}
 use Rattle.run_cli.specs.declared.status.Status.{Status}
-use Rattle.run_cli.specs.declared.status.Status.TheVariants.{Done, Stalled, Usage}
+use Rattle.run_cli.specs.declared.status.Status.TheVariants.{Done, NotValid, Stalled, Usage}
 
 -- at most so many steps
 abbrev pub AtMost : (Option Files → ℕ) → Option Files → ℕ → Type 0
@@ -38,6 +40,10 @@ IsDone s = s ≡ Done
 -- the statuses at the end of a form that runs a train
 abbrev pub MayStall : Status → Type 0
 MayStall s = (s ≡ Done) ⊎ ((point : ℕ) × (s ≡ Stalled point))
+
+-- the statuses at the end of a form that checks a certificate
+abbrev pub MayRefute : Status → Type 0
+MayRefute s = (s ≡ Done) ⊎ ((rule : ℕ) × (point : ℕ) × (s ≡ NotValid rule point))
 
 -- what answers by the line of a file that is accepted
 abbrev pub ByLine : List ℕ → (LineView → Answer) → Files → Answer
@@ -91,3 +97,21 @@ ByCase names next files =
 -- a form of a train on a line by a plan
 abbrev pub case_form : CaseNames → CaseAnswer → (Status → Type 0) → (Option Files → ℕ) → Meaning
 case_form names answers may_end steps = file_form (case_files names) (ByCase names answers) may_end (AtMost steps)
+
+-- what answers by the certificate of a file that is accepted
+abbrev pub ByCert : List ℕ → (CertView → Answer) → Files → Answer
+ByCert name next files s t =
+    (cert : CertView) × (table_in cert_reading (files name) ≡ Some cert) × next cert s t
+
+-- what answers by a case and a certificate
+abbrev pub ClaimAnswer : Type 1
+ClaimAnswer = LineView → StockView → PlanView → List (List ℕ × Zone) → CertView → Answer
+
+abbrev pub ByClaim : CaseNames → List ℕ → ClaimAnswer → Files → Answer
+ByClaim names cert_name next files =
+    ByCase names (λ line stock plan force. ByCert cert_name (next line stock plan force) files) files
+
+-- a form of a certificate of a train on a line by a plan
+abbrev pub claim_form : CaseNames → List ℕ → ClaimAnswer → (Status → Type 0) → (Option Files → ℕ) → Meaning
+claim_form names cert_name answers may_end steps =
+    file_form (claim_files names cert_name) (ByClaim names cert_name answers) may_end (AtMost steps)

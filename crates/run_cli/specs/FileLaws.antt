@@ -5,13 +5,15 @@ use Rattle.line_tables.specs.Line.{LineView}
 use Rattle.run_io.specs.Fetches.{Files}
 use Rattle.stock_tables.specs.Stock.{StockView}
 use Rattle.unit_rules.specs.declared.Zone.{Zone}
-use Rattle.run_cli.specs.FileForms.{AtMost, ByEdits, CaseAnswer, case_form, file_form, line_form, stock_form, train_form}
-use Rattle.run_cli.specs.Files.{AreInForce, AreTables, CaseNames, File, IsCase, IsRead, line_reading, most_cells, stock_reading}
+use Rattle.run_words.specs.Requests.{CaseNames}
+use Rattle.run_cli.specs.FileForms.{AtMost, ByCert, ByEdits, CaseAnswer, ClaimAnswer, case_form, claim_form, file_form, line_form, stock_form, train_form}
+use Rattle.run_cli.specs.Files.{AreInForce, AreTables, File, IsCase, IsClaim, IsRead, line_reading, most_cells, stock_reading}
 use Rattle.run_cli.specs.Meanings.{Answer, Is, IsFileForm}
 use Rattle.run_cli.specs.Serves.{IsMeant}
 use Rattle.run_cli.specs.Statuses.{extent_of}
 use Rattle.run_cli.specs.Statuses.Extent.{whole}
 use Rattle.run_cli.specs.declared.cases.Case.{Case}
+use Rattle.run_cli.specs.declared.cases.Claim.{Claim}
 use Rattle.run_cli.specs.declared.status.Status.{Status}
 use Rattle.run_cli.specs.declared.status.Status.TheVariants.{Done}
 
@@ -54,6 +56,18 @@ case_meant names answers may_end steps None c s t at h is ends = record { answer
 case_meant names answers may_end steps (Some files) c s t at h is ends =
     let by_edits = edits_meant c.line names.edits files c.force.pairs (answers c.line c.stock c.plan) s t at.force h in
     record { answers = (c.line, at.line.same, (c.stock, at.stock.same, (c.plan, at.plan.same, by_edits))); is_whole = is; may_end = ends }
+
+-- and by a case and a certificate
+pub claim_meant : (names : CaseNames) (cert_name : List ℕ) (answers : ClaimAnswer) (may_end : Status → Type 0) (steps : Option Files → ℕ)
+    (told : Option Files) (c : Claim) (s : Status) (t : List ℕ) → IsClaim names cert_name told c
+    → answers c.case.line c.case.stock c.case.plan c.case.force.pairs c.cert s t → extent_of s ≡ whole → may_end s → IsMeant (claim_form names cert_name answers may_end steps) told s t
+claim_meant names cert_name answers may_end steps None c s t at h is ends = record { answers = tt; is_whole = is; may_end = ends }
+claim_meant names cert_name answers may_end steps (Some files) c s t at h is ends =
+    let next : CaseAnswer = λ line stock plan force. ByCert cert_name (answers line stock plan force) files in
+    let by_cert : next c.case.line c.case.stock c.case.plan c.case.force.pairs s t = (c.cert, at.cert.same, h) in
+    let case = at.case in
+    let by_edits = edits_meant c.case.line names.edits files c.case.force.pairs (next c.case.line c.case.stock c.case.plan) s t case.force by_cert in
+    record { answers = (c.case.line, case.line.same, (c.case.stock, case.stock.same, (c.case.plan, case.plan.same, by_edits))); is_whole = is; may_end = ends }
 
 -- a line that was read has no more cells than the line of its file, so no more steps are taken than by these
 pub cells_allow : (steps : ℕ → ℕ) (rises : (a b : ℕ) → a ≤ b → steps a ≤ steps b) (told : Option Files) (name : List ℕ) (line : LineView)

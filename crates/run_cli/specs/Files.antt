@@ -1,9 +1,11 @@
 -- The files that a form reads, one after another, and the first of them that is in the way.
-use Rattle.std.specs.Prelude.{ℕ, ◌≡◌, ◌⊎◌, List, [], ◌∷◌, length, nat_lt, if◌then◌else◌, Option, None, Some, Result, Ok, Err, IfSome, All}
+use Rattle.std.specs.Prelude.{ℕ, ◌≡◌, ◌⊎◌, List, [], ◌∷◌, ◌++◌, length, nat_lt, if◌then◌else◌, Option, None, Some, Result, Ok, Err, IfSome, All}
 use Rattle.std.specs.Option.{option_or}
 use Rattle.unit_rules.specs.Limits.{longest_line, most_bytes}
 use Rattle.run_io.specs.Fetches.{Files, IsAbsent}
 use Rattle.run_io.specs.Told.{Rose, Told}
+use Rattle.certificate.specs.Reading.{read_as_cert}
+use Rattle.certificate.specs.Texts.{CertView, IsCert}
 use Rattle.line_tables.specs.LineFile as line
 use Rattle.line_tables.specs.Line.{IsLine, LineView}
 use Rattle.plan_tables.specs.PlanFile as plan
@@ -12,10 +14,12 @@ use Rattle.restrictions.specs.Edits.{restrictions_in}
 use Rattle.restrictions.specs.Force.{zones_of}
 use Rattle.unit_rules.specs.Zone.{LiesOn}
 use Rattle.unit_rules.specs.declared.Zone.{Zone}
+use Rattle.run_words.specs.Requests.{CaseNames}
 use Rattle.stock_tables.specs.StockFile as stock
 use Rattle.stock_tables.specs.Stock.{IsStock, StockView}
-use Rattle.run_cli.specs.Statuses.{edits_number, edits_status, line_number, line_status, plan_number, plan_status, stock_number, stock_status}
+use Rattle.run_cli.specs.Statuses.{cert_number, cert_status, edits_number, edits_status, line_number, line_status, plan_number, plan_status, stock_number, stock_status}
 use Rattle.run_cli.specs.declared.cases.Case.{Case}
+use Rattle.run_cli.specs.declared.cases.Claim.{Claim}
 use Rattle.run_cli.specs.declared.status.Status.{Status}
 use Rattle.run_cli.specs.declared.status.Status.TheVariants.{ReadFault, Refused, TooLong}
 
@@ -126,6 +130,17 @@ edits_reading line = record {
   read = λ bytes. with_status edits_status (restrictions_in line.length bytes);
 }
 
+-- certificates
+abbrev pub cert_reading : Reading CertView
+cert_reading = record {
+  number = cert_number;
+  keeps = IsCert;
+  read = λ bytes. with_status cert_status (read_as_cert bytes);
+}
+
+abbrev pub cert_file : List ℕ → File
+cert_file = file_read cert_reading
+
 -- the fault of a file that is read for a line which may not be there
 abbrev pub fault_for : {T : Type 0} → (LineView → Reading T) → Option LineView → List ℕ → Option Status
 fault_for reading None bytes = None
@@ -147,20 +162,14 @@ abbrev pub edits_files : List ℕ → Option (List ℕ) → List File
 edits_files line_name None = []
 edits_files line_name (Some name) = file_for edits_number edits_reading line_name name ∷ []
 
--- the names of the files of a case: a line, a stock and a plan, and edits if there are any
-pub record CaseNames : Type 0 where
-  pub line : List ℕ
-  pub stock : List ℕ
-  pub plan : List ℕ
-  pub edits : Option (List ℕ)
-
-abbrev pub case_names : List ℕ → List ℕ → List ℕ → Option (List ℕ) → CaseNames
-case_names line stock plan edits = record { line = line; stock = stock; plan = plan; edits = edits }
-
 -- the files of a case, in the order in which they are read
 abbrev pub case_files : CaseNames → List File
 case_files names =
     line_file names.line ∷ stock_file names.stock ∷ plan_file names.line names.plan ∷ edits_files names.line names.edits
+
+-- and those of a claim: the certificate comes last
+abbrev pub claim_files : CaseNames → List ℕ → List File
+claim_files names cert_name = case_files names ++ cert_file cert_name ∷ []
 
 -- a line and a stock are those of the files of these names
 abbrev pub AreTables : List ℕ → List ℕ → Option Files → LineView × StockView → Type 0
@@ -188,3 +197,8 @@ pub record IsCase (names : CaseNames) (told : Option Files) (c : Case) : Type 0 
   pub stock : IsRead stock_reading told names.stock c.stock
   pub plan : IsRead (plan_reading c.line) told names.plan c.plan
   pub force : AreInForce c.line names.edits told c.force.pairs
+
+-- a claim is that of the files of these names
+pub record IsClaim (names : CaseNames) (cert_name : List ℕ) (told : Option Files) (c : Claim) : Type 0 where
+  pub case : IsCase names told c.case
+  pub cert : IsRead cert_reading told cert_name c.cert

@@ -1,12 +1,12 @@
 -- What each form means.
 use Rattle.std.specs.Prelude.{ℕ, List, Option, Some, None}
 use Rattle.run_words.specs.Requests.{Request, request_of}
-use Rattle.run_words.specs.Requests.Request.{Caps, Stock, Rise, Brakes, Envelope, Plan}
+use Rattle.run_words.specs.Requests.Request.{Caps, Stock, Rise, Brakes, Envelope, Plan, Check}
 use Rattle.run_cli.specs.Brakes.{brakes_meaning}
 use Rattle.run_cli.specs.Caps.{caps_meaning}
+use Rattle.run_cli.specs.Check.{check_meaning}
 use Rattle.run_cli.specs.Envelope.{envelope_meaning}
 use Rattle.run_cli.specs.FileForms.{no_form}
-use Rattle.run_cli.specs.Files.{case_names}
 use Rattle.run_cli.specs.Meanings.{AnswersOnce, Meaning}
 use Rattle.run_cli.specs.Plan.{plan_meaning}
 use Rattle.run_cli.specs.Rise.{rise_meaning}
@@ -19,7 +19,8 @@ meaning_of (Some (Stock stock)) = stock_meaning stock
 meaning_of (Some (Rise line stock kmh)) = rise_meaning line stock kmh
 meaning_of (Some (Brakes line stock)) = brakes_meaning line stock
 meaning_of (Some (Envelope line stock)) = envelope_meaning line stock
-meaning_of (Some (Plan line stock plan kind edits)) = plan_meaning kind (case_names line stock plan edits)
+meaning_of (Some (Plan names kind)) = plan_meaning kind names
+meaning_of (Some (Check names cert)) = check_meaning names cert
 
 -- what the words of a command line mean
 abbrev pub meant_by : List (List ℕ) → Meaning

@@ -1,5 +1,9 @@
 -- That the readers' faults refuse the files that they read.
 use Rattle.std.proofs.Common.{ℕ, List, Ok, Err, Result, refl, inl, inr}
+use Rattle.certificate.specs.Reading.{read_as_cert}
+use Rattle.certificate.specs.Texts.{CertView}
+use Rattle.certificate.specs.declared.reading.CertText.{CertText}
+use Rattle.certificate.specs.declared.reading.CertText.TheVariants as cert_fault
 use Rattle.line_tables.specs.LineFile as line
 use Rattle.line_tables.specs.Line.{LineView}
 use Rattle.line_tables.specs.declared.LineFault.{LineFault}
@@ -15,9 +19,9 @@ use Rattle.stock_tables.specs.StockFile as stock
 use Rattle.stock_tables.specs.Stock.{StockView}
 use Rattle.stock_tables.specs.declared.StockFault.{StockFault}
 use Rattle.stock_tables.specs.declared.StockFault.TheVariants as stock_fault
-use Rattle.run_cli.specs.Files.{edits_reading, line_reading, plan_reading, stock_reading, with_status}
+use Rattle.run_cli.specs.Files.{cert_reading, edits_reading, line_reading, plan_reading, stock_reading, with_status}
 use Rattle.run_cli.specs.Loads.{MayRefuse}
-use Rattle.run_cli.specs.Statuses.{edits_number, edits_status, line_number, line_status, plan_number, plan_status, stock_number, stock_status}
+use Rattle.run_cli.specs.Statuses.{cert_number, cert_status, edits_number, edits_status, line_number, line_status, plan_number, plan_status, stock_number, stock_status}
 
 line_refused : (r : Result LineView LineFault) → MayRefuse line_number (with_status line_status r)
 line_refused (Ok table) = tt
@@ -53,3 +57,11 @@ edits_refused (Err (edits_fault.Bad place code)) = inr (inl (_, (_, refl)))
 
 pub edits_refuses : (line : LineView) (bytes : List ℕ) → MayRefuse (edits_reading line).number ((edits_reading line).read bytes)
 edits_refuses line bytes = edits_refused (restrictions_in line.length bytes)
+
+cert_refused : (r : Result CertView CertText) → MayRefuse cert_number (with_status cert_status r)
+cert_refused (Ok table) = tt
+cert_refused (Err cert_fault.Memory) = inl refl
+cert_refused (Err (cert_fault.Bad place rule)) = inr (inl (_, (_, refl)))
+
+pub cert_refuses : (bytes : List ℕ) → MayRefuse cert_reading.number (cert_reading.read bytes)
+cert_refuses bytes = cert_refused (read_as_cert bytes)

@@ -1,6 +1,8 @@
 -- The text that each status has of its own, and the status of each fault of a file.
 use Rattle.std.specs.Prelude.{ℕ, ◌==◌, if◌then◌else◌, List, [], ◌++◌, codes}
 use Rattle.std.specs.Fmt.{decimal}
+use Rattle.certificate.specs.declared.reading.CertText.{CertText}
+use Rattle.certificate.specs.declared.reading.CertText.TheVariants as cert
 use Rattle.line_tables.specs.declared.LineFault.{LineFault}
 use Rattle.line_tables.specs.declared.LineFault.TheVariants as line
 use Rattle.plan_tables.specs.declared.PlanFault.{PlanFault}
@@ -22,7 +24,7 @@ status_text (NotValid rule point) = codes "not valid " ++ decimal rule ++ codes 
 status_text (TooLong file) = codes "too long " ++ decimal file ++ codes "\n"
 status_text _ = []
 
--- the numbers of line, stock, plan and edits files among the files of all forms
+-- the numbers of line, stock, plan, edits and certificate files among the files of all forms
 abbrev pub line_number : ℕ
 line_number = 1
 
@@ -34,6 +36,9 @@ plan_number = 3
 
 abbrev pub edits_number : ℕ
 edits_number = 4
+
+abbrev pub cert_number : ℕ
+cert_number = 5
 
 -- where the line of a file is missing, place and rule are 0
 abbrev pub line_status : LineFault → Status
@@ -60,6 +65,11 @@ plan_status plan.Memory = Memory
 abbrev pub edits_status : EditsFault → Status
 edits_status (edits.Bad place code) = Refused edits_number place code
 edits_status edits.Memory = Memory
+
+-- the places of a certificate are its lines
+abbrev pub cert_status : CertText → Status
+cert_status (cert.Bad place rule) = Refused cert_number place rule
+cert_status cert.Memory = Memory
 
 -- what a run has written that ends by a status: its whole text; what stood when a fault of reading or want of memory
 -- stopped it; or a front of its text, at a fault of the sink

@@ -1,21 +1,22 @@
 //! The files that a form reads: fetched by name, and read by the reader of their kind.
 
 ghost use Rattle.std.specs.Prelude.{◌≡◌, ◌≤◌, ◌∷◌, ℕ, List, [], Err, IfOk, None, Some};
-ghost use Rattle.run_cli.specs.Files.{AreInForce, IsCase, IsRead, Reading, case_files, edits_reading, file_read, line_file, line_reading, plan_reading, stock_file, stock_reading};
+ghost use Rattle.run_cli.specs.Files.{AreInForce, IsCase, IsClaim, IsRead, Reading, case_files, cert_reading, claim_files, edits_reading, file_read, line_file, line_reading, plan_reading, stock_file, stock_reading};
 ghost use Rattle.run_cli.specs.Loads.{AsksOnce, Fetched, Loads, MayRefuse, edits_read, file_named, name_in};
-ghost use Rattle.run_cli.specs.Plan.{names_of};
-ghost use Rattle.run_cli.specs.ReaderLaws.{edits_refuses, line_refuses, plan_refuses, stock_refuses};
+ghost use Rattle.run_cli.specs.ReaderLaws.{cert_refuses, edits_refuses, line_refuses, plan_refuses, stock_refuses};
 ghost use Rattle.run_cli.specs.declared.status.Status.TheVariants.{Memory as NoMemory};
+ghost use Rattle.run_words.specs.Requests.{case_view};
 ghost use Rattle.unit_rules.specs.Memory.{Gives};
 
 use crate::Status;
-use crate::cases::Case;
+use crate::cases::{Case, Claim};
 use crate::edits::Restrictions;
+use certificate::{Cert, read_cert};
 use line_tables::{Line, read_line};
 use plan_tables::{Plan, read_plan};
 use restrictions::{InForce, read_edits};
 use run_io::{Fetch, Shelf};
-use run_words::PlanForm;
+use run_words::{CaseForm, CheckForm};
 use std::alloc::Global;
 use stock_tables::{Stock, read_stock};
 use unit_rules::MOST_BYTES;
@@ -31,6 +32,9 @@ pub(crate) const PLAN_FILE: u32 = 3;
 
 /// The number of edits files.
 pub(crate) const EDITS_FILE: u32 = 4;
+
+/// The number of certificate files.
+pub(crate) const CERT_FILE: u32 = 5;
 
 /// A reader of one kind of file.
 pub(crate) trait Reader {
@@ -138,17 +142,55 @@ impl<'a> Reader for EditsReader<'a> {
     ghost refuses = { λ r. edits_refuses r.line.now };
 }
 
+/// The reader of certificates.
+#[derive(Drop)]
+pub(crate) struct CertReader;
+
+impl Reader for CertReader {
+    type Table = Cert;
+
+    ghost reading = { λ r. cert_reading };
+
+    fn number(&self) -> u32 {
+        CERT_FILE
+    }
+
+    fn read(&self, alloc: Global, bytes: &[u8]) -> Result<Cert, Status> {
+        Ok(read_cert(alloc, bytes)?)
+    }
+
+    ghost refuses = { λ r. cert_refuses };
+}
+
+// The claim of the files of these names: first those of the case, and then the certificate.
+pub(crate) fn load_claim<S: Shelf>(
+    alloc: Global,
+    shelf: &mut S,
+    form: &CheckForm<'_>,
+) -> Result<Claim, Status>
+    ensures claim { IfOk result (IsClaim (case_view form.now.case) form.now.cert.now
+        (S.told shelf.old).holds) }
+    ensures loads { Loads (claim_files (case_view form.now.case) form.now.cert.now)
+        (S.told shelf.old) (S.told shelf.new) result }
+    ensures asks { AsksOnce (claim_files (case_view form.now.case) form.now.cert.now)
+        (S.asked shelf.old) (S.asked shelf.new) }
+{
+    let case = load_case(alloc, shelf, &form.case)?;
+    let cert = load_file(alloc, shelf, &CertReader, form.cert)?;
+    Ok(Claim { case, cert })
+}
+
 // The case of the files of these names, the line file first, then the stock file, the plan file and
 // the edits file, if there is one.
 pub(crate) fn load_case<S: Shelf>(
     alloc: Global,
     shelf: &mut S,
-    form: &PlanForm<'_>,
+    form: &CaseForm<'_>,
 ) -> Result<Case, Status>
-    ensures case { IfOk result (IsCase (names_of form.now) (S.told shelf.old).holds) }
-    ensures loads { Loads (case_files (names_of form.now))
+    ensures case { IfOk result (IsCase (case_view form.now) (S.told shelf.old).holds) }
+    ensures loads { Loads (case_files (case_view form.now))
         (S.told shelf.old) (S.told shelf.new) result }
-    ensures asks { AsksOnce (case_files (names_of form.now))
+    ensures asks { AsksOnce (case_files (case_view form.now))
         (S.asked shelf.old) (S.asked shelf.new) }
 {
     let (line, stock) = load_both(alloc, shelf, form.line, form.stock)?;

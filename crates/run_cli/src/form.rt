@@ -8,6 +8,7 @@ ghost use Rattle.run_cli.specs.Forms.{meaning_of};
 ghost use Rattle.run_cli.specs.Loads.{AsksOnce, Loads};
 ghost use Rattle.run_cli.specs.Meanings.{IsFileForm};
 ghost use Rattle.run_cli.specs.Serves.{Finishes, IsMeant, IsServed, Works};
+ghost use Rattle.run_cli.specs.Statuses.{status_text};
 ghost use Rattle.run_cli.specs.declared.status.Status.{Status as Ending};
 ghost use Rattle.run_words.specs.Requests.{Request};
 
@@ -137,14 +138,24 @@ fn work<F: Form, K: Sink, L: Ledger>(
     }
 }
 
-// Writes the own text of a status.
+// Writes the own text of a status, and answers how that ends.
 pub(crate) fn refuse<K: Sink>(status: Status, out: &mut K) -> Status
     ensures { Finishes status (K.told out.old) (K.told out.new) result }
 {
-    let mut block = Block::new();
-    status.put(&mut block);
-    match block.flush(out) {
+    match write_status(out, status) {
         Ok(()) => status,
         Err(Failed) => Status::WriteFault,
     }
+}
+
+// Writes the own text of a status.
+pub(crate) fn write_status<K: Sink>(out: &mut K, status: Status) -> Result<(), Failed>
+    ensures ok { OnOk result (Writes (K.told out.old) (K.told out.new) (status_text status)) }
+    ensures failed { OnErr result (WritesFront (K.told out.old) (K.told out.new)
+        (status_text status)) }
+    ensures cause { HasCause (K.told out.old) (K.told out.new) result }
+{
+    let mut block = Block::new();
+    status.put(&mut block);
+    block.flush(out)
 }

@@ -5,6 +5,7 @@
 ghost use Rattle.std.specs.Prelude.{◌≡◌, Some, map, string_bytes};
 ghost use Rattle.run_cli.specs.Ends.{EndsAs, HasCause, IsComplete, TakesInput, TakesSteps, outside};
 ghost use Rattle.run_cli.specs.Forms.{WordsAnswerOnce, meaning_of, meant_by};
+ghost use Rattle.run_cli.specs.Laws.{PrintedAreValid};
 ghost use Rattle.run_cli.specs.Loads.{AsksOnce};
 ghost use Rattle.run_cli.specs.Serves.{IsServed};
 ghost use Rattle.run_words.specs.Requests.{view};
@@ -12,6 +13,8 @@ ghost use Rattle.run_words.specs.Requests.{view};
 mod brakes;
 mod caps;
 mod cases;
+mod cert_report;
+mod check;
 mod edits;
 mod envelope;
 mod files;
@@ -64,11 +67,12 @@ pub fn run<S: Shelf, I: Source, K: Sink, L: Ledger>(
     serve_words(alloc, words, shelf, input, out, steps)
 }
 
-/// The law of answers that follows from the definitions alone: no words over any files and any input
-/// have two. So a run that ends with its whole text ends with the one status and the one text that
-/// there can be.
+/// The laws of answers that follow from the definitions alone. No words over any files and any input
+/// have two, so a run that ends with its whole text ends with the one status and the one text that
+/// there can be. And a certificate that is printed is valid where it is checked.
 pub fn laws_of_answers()
     ensures once { WordsAnswerOnce }
+    ensures valid { PrintedAreValid }
 {}
 
 // Reads the words, and serves what they ask for.
@@ -113,5 +117,6 @@ fn serve_request<S: Shelf, I: Source, K: Sink, L: Ledger>(
         Request::Brakes(form) => serve(alloc, &form, shelf, input, out, steps),
         Request::Envelope(form) => serve(alloc, &form, shelf, input, out, steps),
         Request::Plan(form) => serve(alloc, &form, shelf, input, out, steps),
+        Request::Check(form) => serve(alloc, &form, shelf, input, out, steps),
     }
 }

@@ -1,5 +1,5 @@
-//! The form `plan`: the fastest run of a train over a line by a plan, or its timetable; or the point
-//! at which it is stalled.
+//! The form `plan`: the fastest run of a train over a line by a plan, its timetable or its certificate;
+//! or the point at which it is stalled.
 
 ghost use Rattle.std.specs.Prelude.{◌≡◌, ◌≤◌, ◌+◌, ◌*◌, Some, IfOk, OnOk, OnErr};
 ghost use Rattle.allowances.specs.Rows.{row_count, section_count};
@@ -7,12 +7,13 @@ ghost use Rattle.run_cli.specs.FileLaws.{alone};
 ghost use Rattle.run_cli.specs.Files.{IsCase};
 ghost use Rattle.run_cli.specs.Forms.{meaning_of};
 ghost use Rattle.run_cli.specs.Loads.{AsksOnce, Loads};
-ghost use Rattle.run_cli.specs.Plan.{IsTimed, case_steps, found_status, found_text, names_of, plan_allows, plan_answer, plan_means};
+ghost use Rattle.run_cli.specs.Plan.{IsTimed, case_steps, found_status, found_text, plan_allows, plan_answer, plan_means};
 ghost use Rattle.time_brackets.specs.Sums.{block_cells};
-ghost use Rattle.run_words.specs.Requests.{plan_view};
+ghost use Rattle.run_words.specs.Requests.{case_view, plan_view};
 
 use crate::Status;
 use crate::cases::Case;
+use crate::cert_report::CertReport;
 use crate::files::load_case;
 use crate::form::Form;
 use crate::report::PlanReport;
@@ -32,7 +33,7 @@ impl<'a> Form for PlanForm<'a> {
 
     ghost request = { plan_view };
 
-    ghost are = { λ f. IsCase (names_of f) };
+    ghost are = { λ f. IsCase (case_view f.case) };
 
     ghost right = { λ f c r.
         plan_answer f.print c.line c.stock c.plan c.force.pairs (found_status r) (found_text r) };
@@ -40,7 +41,7 @@ impl<'a> Form for PlanForm<'a> {
     ghost cost = { λ f. case_steps f.print };
 
     fn load<S: Shelf>(&self, alloc: Global, shelf: &mut S) -> Result<Case, Status> {
-        load_case(alloc, shelf, self)
+        load_case(alloc, shelf, &self.case)
     }
 
     fn make<L: Ledger>(
@@ -63,6 +64,10 @@ impl<'a> Form for PlanForm<'a> {
             Print::Timetable => {
                 let envelope = Envelope::under(alloc, line, stock, plan, force, steps)?;
                 timed(alloc, envelope, steps)
+            }
+            Print::Cert => {
+                let drive = drive(alloc, &line, stock, &plan, &force, steps)?;
+                Ok(PlanReport::Cert(CertReport::of(drive)))
             }
         }
     }

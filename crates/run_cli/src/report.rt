@@ -2,15 +2,18 @@
 
 ghost use Rattle.std.specs.Prelude.{◌≡◌, ◌≤◌, ◌+◌, ◌*◌, OnOk, OnErr};
 ghost use Rattle.report_text.specs.Texts.{bands_text, list_text};
+ghost use Rattle.run_cli.specs.Check as check;
 ghost use Rattle.run_cli.specs.Envelope.{envelope_status, envelope_text};
 ghost use Rattle.run_cli.specs.Plan.{found_status, found_text};
 ghost use Rattle.run_cli.specs.declared.status.Status.TheVariants.{Done};
 
 use crate::Status;
-use crate::form::Report;
+use crate::cert_report::CertReport;
+use crate::form::{Report, write_status};
 use crate::timetable_report::TimetableReport;
+use cert_check::CertFault;
 use incr_envelope::Drive;
-use report_text::{write_bands, write_list, write_reach, write_timetable};
+use report_text::{write_bands, write_list, write_reach, write_timetable, write_valid};
 use run_io::{Failed, Sink};
 use std::sync::ledger::Ledger;
 use stock_tables::Stock;
@@ -82,13 +85,14 @@ impl Report for Drive {
     }
 }
 
-// What a plan was found to give: the speeds of its run, or their stall; or the times of its calls, or
-// the point at which it is stalled.
+// What a plan was found to give: the speeds of its run, or their stall; the times of its calls, or the
+// point at which it is stalled; or its certificate.
 #[derive(Drop)]
 pub(crate) enum PlanReport {
     Speeds(Drive),
     Stall(u32),
     Times(TimetableReport),
+    Cert(CertReport),
 }
 
 impl Report for PlanReport {
@@ -103,6 +107,7 @@ impl Report for PlanReport {
             PlanReport::Speeds(drive) => drive.write(out, steps),
             PlanReport::Stall(k) => write_reach(out, Reach::Stalled { k: *k }),
             PlanReport::Times(report) => write_timetable(out, &report.rows, report.envelope.plan()),
+            PlanReport::Cert(report) => report.write(out),
         }
     }
 
@@ -111,6 +116,45 @@ impl Report for PlanReport {
             PlanReport::Speeds(drive) => drive.status(),
             PlanReport::Stall(k) => Status::Stalled { point: *k },
             PlanReport::Times(_) => Status::Done,
+            PlanReport::Cert(report) => report.drive.status(),
         }
+    }
+}
+
+// What was found of a certificate: its reach, where it is right, or the first rule that it breaks.
+#[derive(Drop)]
+pub(crate) struct CheckReport {
+    pub(crate) found: Result<Reach, CertFault>,
+}
+
+impl Report for CheckReport {
+    ghost text = { λ r. check.found_text r.found };
+
+    ghost ending = { λ r. check.found_status r.found };
+
+    ghost work = { λ r. 0 };
+
+    fn write<K: Sink, L: Ledger>(&self, out: &mut K, _steps: &mut Steps<L>) -> Result<(), Failed> {
+        match &self.found {
+            Ok(reach) => write_valid(out, *reach),
+            Err(fault) => write_status(out, not_valid(fault)),
+        }
+    }
+
+    fn status(&self) -> Status {
+        match &self.found {
+            Ok(_) => Status::Done,
+            Err(fault) => not_valid(fault),
+        }
+    }
+}
+
+// That a certificate breaks this rule at this point.
+fn not_valid(fault: &CertFault) -> Status
+    ensures { result ≡ Status.NotValid fault.now.rule fault.now.point }
+{
+    Status::NotValid {
+        rule: fault.rule,
+        point: fault.point,
     }
 }

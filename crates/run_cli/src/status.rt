@@ -2,10 +2,11 @@
 
 ghost use Rattle.std.specs.Prelude.{◌≡◌, ◌++◌, []};
 ghost use Rattle.run_cli.specs.Exits.{exit_of};
-ghost use Rattle.run_cli.specs.Statuses.{edits_status, law_rule, line_status, plan_status, status_text, stock_status};
+ghost use Rattle.run_cli.specs.Statuses.{cert_status, edits_status, law_rule, line_status, plan_status, status_text, stock_status};
 ghost use Rattle.run_cli.specs.declared.status.Status.TheVariants.{Memory as NoMemory, WriteFault};
 
-use crate::files::{EDITS_FILE, LINE_FILE, PLAN_FILE, STOCK_FILE};
+use crate::files::{CERT_FILE, EDITS_FILE, LINE_FILE, PLAN_FILE, STOCK_FILE};
+use certificate::CertText;
 use line_tables::LineFault;
 use plan_tables::PlanFault;
 use restrictions::EditsFault;
@@ -180,6 +181,21 @@ impl From<EditsFault> for Status {
                 rule: code,
             },
             EditsFault::Memory => Status::Memory,
+        }
+    }
+}
+
+impl From<CertText> for Status {
+    ghost from_gives = { λ e s. s ≡ cert_status e };
+
+    fn from(fault: CertText) -> Status {
+        match fault {
+            CertText::Bad { place, rule } => Status::Refused {
+                file: CERT_FILE,
+                place,
+                rule,
+            },
+            CertText::Memory => Status::Memory,
         }
     }
 }

@@ -2,8 +2,8 @@
 use Rattle.std.proofs.Common.{◌≡◌, [], ◌∷◌, Some, None, codes, refl}
 use Rattle.clap.proofs.OnLiterals.{clap_on_literals}
 use Rattle.unit_rules.specs.Numeral.{whole_of}
-use Rattle.run_words.specs.Requests.{request_of}
-use Rattle.run_words.specs.Requests.Request.{Caps, Stock, Rise, Brakes, Envelope, Plan}
+use Rattle.run_words.specs.Requests.{case_names, request_of}
+use Rattle.run_words.specs.Requests.Request.{Caps, Stock, Rise, Brakes, Envelope, Plan, Check}
 use Rattle.run_words.specs.declared.requests.Print.TheVariants as print
 
 caps_words : request_of (codes "caps" ∷ codes "l" ∷ codes "5000" ∷ codes "500" ∷ [])
@@ -79,12 +79,12 @@ no_words = refl
 
 -- an option stands anywhere; its value is the next word, or stands behind `=`
 option_in_front : request_of (codes "plan" ∷ codes "--print=timetable" ∷ codes "l" ∷ codes "s" ∷ codes "p" ∷ [])
-    ≡ Some (Plan (codes "l") (codes "s") (codes "p") print.Timetable None)
+    ≡ Some (Plan (case_names (codes "l") (codes "s") (codes "p") None) print.Timetable)
 unfolding clap_on_literals
 option_in_front = refl
 
 option_behind : request_of (codes "plan" ∷ codes "l" ∷ codes "s" ∷ codes "p" ∷ codes "--print" ∷ codes "envelope" ∷ [])
-    ≡ Some (Plan (codes "l") (codes "s") (codes "p") print.Envelope None)
+    ≡ Some (Plan (case_names (codes "l") (codes "s") (codes "p") None) print.Envelope)
 unfolding clap_on_literals
 option_behind = refl
 
@@ -101,8 +101,12 @@ value_missing : request_of (codes "plan" ∷ codes "l" ∷ codes "s" ∷ codes "
 unfolding clap_on_literals
 value_missing = refl
 
--- what else may be printed isn't there yet
-other_print : request_of (codes "plan" ∷ codes "l" ∷ codes "s" ∷ codes "p" ∷ codes "--print" ∷ codes "cert" ∷ []) ≡ None
+certificate_printed : request_of (codes "plan" ∷ codes "l" ∷ codes "s" ∷ codes "p" ∷ codes "--print=cert" ∷ [])
+    ≡ Some (Plan (case_names (codes "l") (codes "s") (codes "p") None) print.Cert)
+unfolding clap_on_literals
+certificate_printed = refl
+
+other_print : request_of (codes "plan" ∷ codes "l" ∷ codes "s" ∷ codes "p" ∷ codes "--print" ∷ codes "certificate" ∷ []) ≡ None
 unfolding clap_on_literals
 other_print = refl
 
@@ -114,19 +118,19 @@ other_option = refl
 -- a file of edits may be named, once, and anywhere
 edits_in_front : request_of (codes "plan" ∷ codes "--edits" ∷ codes "e"
     ∷ codes "l" ∷ codes "s" ∷ codes "p" ∷ codes "--print" ∷ codes "envelope" ∷ [])
-    ≡ Some (Plan (codes "l") (codes "s") (codes "p") print.Envelope (Some (codes "e")))
+    ≡ Some (Plan (case_names (codes "l") (codes "s") (codes "p") (Some (codes "e"))) print.Envelope)
 unfolding clap_on_literals
 edits_in_front = refl
 
 edits_between : request_of (codes "plan" ∷ codes "l" ∷ codes "--edits=e"
     ∷ codes "s" ∷ codes "--print" ∷ codes "timetable" ∷ codes "p" ∷ [])
-    ≡ Some (Plan (codes "l") (codes "s") (codes "p") print.Timetable (Some (codes "e")))
+    ≡ Some (Plan (case_names (codes "l") (codes "s") (codes "p") (Some (codes "e"))) print.Timetable)
 unfolding clap_on_literals
 edits_between = refl
 
 edits_behind : request_of (codes "plan" ∷ codes "l" ∷ codes "s" ∷ codes "p"
     ∷ codes "--print" ∷ codes "timetable" ∷ codes "--edits" ∷ codes "envelope" ∷ [])
-    ≡ Some (Plan (codes "l") (codes "s") (codes "p") print.Timetable (Some (codes "envelope")))
+    ≡ Some (Plan (case_names (codes "l") (codes "s") (codes "p") (Some (codes "envelope"))) print.Timetable)
 unfolding clap_on_literals
 edits_behind = refl
 
@@ -138,7 +142,7 @@ edits_without_value = refl
 -- an empty name is a name
 edits_empty : request_of (codes "plan" ∷ codes "l" ∷ codes "s" ∷ codes "p"
     ∷ codes "--print" ∷ codes "envelope" ∷ codes "--edits=" ∷ [])
-    ≡ Some (Plan (codes "l") (codes "s") (codes "p") print.Envelope (Some []))
+    ≡ Some (Plan (case_names (codes "l") (codes "s") (codes "p") (Some [])) print.Envelope)
 unfolding clap_on_literals
 edits_empty = refl
 
@@ -155,7 +159,7 @@ edits_twice = refl
 -- a value that begins with a dash stands behind `=`, but for a dash alone
 edits_dash_behind_equals : request_of (codes "plan" ∷ codes "l" ∷ codes "s" ∷ codes "p"
     ∷ codes "--print" ∷ codes "envelope" ∷ codes "--edits=-e" ∷ [])
-    ≡ Some (Plan (codes "l") (codes "s") (codes "p") print.Envelope (Some (codes "-e")))
+    ≡ Some (Plan (case_names (codes "l") (codes "s") (codes "p") (Some (codes "-e"))) print.Envelope)
 unfolding clap_on_literals
 edits_dash_behind_equals = refl
 
@@ -166,7 +170,7 @@ edits_dash_in_front = refl
 
 edits_dash_alone : request_of (codes "plan" ∷ codes "l" ∷ codes "s" ∷ codes "p"
     ∷ codes "--print" ∷ codes "envelope" ∷ codes "--edits" ∷ codes "-" ∷ [])
-    ≡ Some (Plan (codes "l") (codes "s") (codes "p") print.Envelope (Some (codes "-")))
+    ≡ Some (Plan (case_names (codes "l") (codes "s") (codes "p") (Some (codes "-"))) print.Envelope)
 unfolding clap_on_literals
 edits_dash_alone = refl
 
@@ -178,3 +182,22 @@ edits_behind_dashes = refl
 edits_of_another : request_of (codes "envelope" ∷ codes "l" ∷ codes "s" ∷ codes "--edits" ∷ codes "e" ∷ []) ≡ None
 unfolding clap_on_literals
 edits_of_another = refl
+
+-- a certificate is checked over the files of a plan, with or without edits
+check_words : request_of (codes "check" ∷ codes "l" ∷ codes "s" ∷ codes "p" ∷ codes "c" ∷ [])
+    ≡ Some (Check (case_names (codes "l") (codes "s") (codes "p") None) (codes "c"))
+unfolding clap_on_literals
+check_words = refl
+
+check_under_edits : request_of (codes "check" ∷ codes "--edits" ∷ codes "e" ∷ codes "l" ∷ codes "s" ∷ codes "p" ∷ codes "c" ∷ [])
+    ≡ Some (Check (case_names (codes "l") (codes "s") (codes "p") (Some (codes "e"))) (codes "c"))
+unfolding clap_on_literals
+check_under_edits = refl
+
+check_without_certificate : request_of (codes "check" ∷ codes "l" ∷ codes "s" ∷ codes "p" ∷ []) ≡ None
+unfolding clap_on_literals
+check_without_certificate = refl
+
+check_prints_nothing : request_of (codes "check" ∷ codes "l" ∷ codes "s" ∷ codes "p" ∷ codes "c" ∷ codes "--print=cert" ∷ []) ≡ None
+unfolding clap_on_literals
+check_prints_nothing = refl

@@ -7,6 +7,8 @@ use Rattle.clap.specs.Words.{App, Row, Text, first_of}
 use Rattle.run_words.specs.Commands.{◌taking◌, number_of, option_named, plain_app, positional, rows_in}
 use Rattle.run_words.specs.declared.requests.BrakesForm.{BrakesForm}
 use Rattle.run_words.specs.declared.requests.CapsForm.{CapsForm}
+use Rattle.run_words.specs.declared.requests.CaseForm.{CaseForm}
+use Rattle.run_words.specs.declared.requests.CheckForm.{CheckForm}
 use Rattle.run_words.specs.declared.requests.EnvelopeForm.{EnvelopeForm}
 use Rattle.run_words.specs.declared.requests.PlanForm.{PlanForm}
 use Rattle.run_words.specs.declared.requests.Print.{Print}
@@ -16,6 +18,16 @@ use Rattle.run_words.specs.declared.requests.StockForm.{StockForm}
 use Rattle.run_words.specs.declared.requests.Request.{Request as Form}
 use Rattle.run_words.specs.declared.requests.Request.TheVariants as form
 
+-- the names of the files of a case: a line, a stock and a plan, and edits if there are any
+pub record CaseNames : Type 0 where
+  pub line : List ℕ
+  pub stock : List ℕ
+  pub plan : List ℕ
+  pub edits : Option (List ℕ)
+
+abbrev pub case_names : List ℕ → List ℕ → List ℕ → Option (List ℕ) → CaseNames
+case_names line stock plan edits = record { line = line; stock = stock; plan = plan; edits = edits }
+
 -- a form with the names of its files and its numbers, in the order of the words
 pub data Request : Type 0 where
   Caps : List ℕ → ℕ → ℕ → Request
@@ -23,7 +35,8 @@ pub data Request : Type 0 where
   Rise : List ℕ → List ℕ → ℕ → Request
   Brakes : List ℕ → List ℕ → Request
   Envelope : List ℕ → List ℕ → Request
-  Plan : List ℕ → List ℕ → List ℕ → Print → Option (List ℕ) → Request
+  Plan : CaseNames → Print → Request
+  Check : CaseNames → List ℕ → Request
 
 infixl 9 ◌>>=◌
 abbrev ◌>>=◌ : {A B : Type 0} → Option A → (A → Option B) → Option B
@@ -86,28 +99,48 @@ envelope_in rows = do
   stock ← first_of (codes "stock") rows
   Some (Envelope line stock)
 
+-- a command of this name for a case: `NAME LINE STOCK PLAN`, and `--edits FILE` where there are edits
+abbrev pub case_app : Text → App
+case_app name = train_app name taking positional (codes "plan")
+
+abbrev pub case_in : List Row → Option CaseNames
+case_in rows = do
+  line ← first_of (codes "line") rows
+  stock ← first_of (codes "stock") rows
+  plan ← first_of (codes "plan") rows
+  Some (case_names line stock plan (first_of (codes "edits") rows))
+
 -- what a plan is asked to print, by its word
 abbrev pub print_of : Text → Option Print
 print_of word =
     if bytes_eq word (codes "envelope") then Some print.Envelope
     else if bytes_eq word (codes "timetable") then Some print.Timetable
+    else if bytes_eq word (codes "cert") then Some print.Cert
     else None
 
--- `plan LINE STOCK PLAN --print envelope|timetable [--edits FILE]`
+-- `plan LINE STOCK PLAN --print envelope|timetable|cert [--edits FILE]`
 abbrev pub plan_app : App
 plan_app =
-    train_app (codes "plan")
-    taking positional (codes "plan")
+    case_app (codes "plan")
     taking option_named true (codes "print") taking option_named false (codes "edits")
 
 abbrev pub plan_in : List Row → Option Request
 plan_in rows = do
-  line ← first_of (codes "line") rows
-  stock ← first_of (codes "stock") rows
-  plan ← first_of (codes "plan") rows
+  names ← case_in rows
   word ← first_of (codes "print") rows
   kind ← print_of word
-  Some (Plan line stock plan kind (first_of (codes "edits") rows))
+  Some (Plan names kind)
+
+-- `check LINE STOCK PLAN CERT [--edits FILE]`
+abbrev pub check_app : App
+check_app =
+    case_app (codes "check") taking positional (codes "cert") taking option_named false (codes "edits")
+
+abbrev pub check_in : List Row → Option Request
+check_in rows = do
+  names ← case_in rows
+  cert ← first_of (codes "cert") rows
+  Some (Check names cert)
 
 -- the first of the words is this name
 abbrev pub asks : List Text → Text → Bool
@@ -124,6 +157,7 @@ request_of words =
     else if asks words (codes "brakes") then rows_in brakes_app words >>= brakes_in
     else if asks words (codes "envelope") then rows_in envelope_app words >>= envelope_in
     else if asks words (codes "plan") then rows_in plan_app words >>= plan_in
+    else if asks words (codes "check") then rows_in check_app words >>= check_in
     else None
 
 -- what each form that was read asks for
@@ -142,8 +176,14 @@ brakes_view f = Brakes f.line.now f.stock.now
 abbrev pub envelope_view : EnvelopeForm → Request
 envelope_view f = Envelope f.line.now f.stock.now
 
+abbrev pub case_view : CaseForm → CaseNames
+case_view f = case_names f.line.now f.stock.now f.plan.now (option_map (λ s. s.now) f.edits)
+
 abbrev pub plan_view : PlanForm → Request
-plan_view f = Plan f.line.now f.stock.now f.plan.now f.print (option_map (λ s. s.now) f.edits)
+plan_view f = Plan (case_view f.case) f.print
+
+abbrev pub check_view : CheckForm → Request
+check_view f = Check (case_view f.case) f.cert.now
 
 -- what a request that was read asks for
 abbrev pub view : Form → Request
@@ -153,3 +193,4 @@ view (form.Rise f) = rise_view f
 view (form.Brakes f) = brakes_view f
 view (form.Envelope f) = envelope_view f
 view (form.Plan f) = plan_view f
+view (form.Check f) = check_view f

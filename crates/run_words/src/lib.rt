@@ -4,9 +4,9 @@
 ghost use Rattle.std.specs.Prelude.{◌≡◌, IfOk, map, option_and_then, option_map, string_bytes};
 ghost use Rattle.clap.specs.Words.{app_of, found_of, rows_of};
 ghost use Rattle.run_words.specs.Commands.{rows_in};
-ghost use Rattle.run_words.specs.Requests.{asks, print_of, request_of, view};
-ghost use Rattle.run_words.specs.Requests.{brakes_app, caps_app, envelope_app, plan_app, rise_app, stock_app, train_app};
-ghost use Rattle.run_words.specs.Requests.{brakes_in, caps_in, envelope_in, plan_in, rise_in, stock_in};
+ghost use Rattle.run_words.specs.Requests.{asks, case_view, print_of, request_of, view};
+ghost use Rattle.run_words.specs.Requests.{brakes_app, caps_app, case_app, check_app, envelope_app, plan_app, rise_app, stock_app, train_app};
+ghost use Rattle.run_words.specs.Requests.{brakes_in, caps_in, case_in, check_in, envelope_in, plan_in, rise_in, stock_in};
 
 mod command;
 mod requests;
@@ -14,7 +14,8 @@ mod requests;
 use crate::command::{matches_by, number_of, plain_command, value_of, with_option, with_value};
 use clap::{ArgMatches, Command};
 pub use requests::{
-    BrakesForm, CapsForm, EnvelopeForm, PlanForm, Print, Request, RiseForm, StockForm,
+    BrakesForm, CapsForm, CaseForm, CheckForm, EnvelopeForm, PlanForm, Print, Request, RiseForm,
+    StockForm,
 };
 use std::alloc::Global;
 use unit_rules::{GREATEST_SPEED, LONGEST_TRAIN, Memory};
@@ -25,7 +26,8 @@ use unit_rules::{GREATEST_SPEED, LONGEST_TRAIN, Memory};
 /// - `rise LINE STOCK KMH`, with a speed from 0 to 500 km/h,
 /// - `brakes LINE STOCK`,
 /// - `envelope LINE STOCK`,
-/// - `plan LINE STOCK PLAN --print envelope`, or `timetable`, and `--edits FILE` or none.
+/// - `plan LINE STOCK PLAN --print envelope`, `timetable` or `cert`, and `--edits FILE` or none,
+/// - `check LINE STOCK PLAN CERT`, and `--edits FILE` or none.
 ///
 /// A number has no sign, no space and no zero in front. A value that begins with a dash stands behind
 /// a word `--`, and that of an option behind `=`, but for a dash alone.
@@ -44,6 +46,8 @@ pub fn read_request<'a>(alloc: Global, words: &'a [String]) -> Result<Option<Req
         read_envelope(alloc, words)
     } else if asks(words, "plan") {
         read_plan(alloc, words)
+    } else if asks(words, "check") {
+        read_check(alloc, words)
     } else {
         Ok(None)
     }
@@ -195,11 +199,33 @@ fn read_plan<'a>(alloc: Global, words: &'a [String]) -> Result<Option<Request<'a
     }
 }
 
+// The command of a case, `NAME LINE STOCK PLAN`, without its option.
+fn case_command<'a>(alloc: Global, name: &'a str) -> Result<Command<'a>, Memory>
+    ensures { IfOk result (λ c. app_of c ≡ case_app name.entry.now) }
+{
+    let command = train_command(alloc, name)?;
+    with_value(alloc, command, "plan")
+}
+
+fn case_of<'a>(matches: &ArgMatches<'a>) -> Option<CaseForm<'a>>
+    ensures { option_map case_view result ≡ case_in (rows_of (found_of matches.now)) }
+{
+    let line = value_of(matches, "line")?;
+    let stock = value_of(matches, "stock")?;
+    let plan = value_of(matches, "plan")?;
+    let edits = value_of(matches, "edits");
+    Some(CaseForm {
+        line,
+        stock,
+        plan,
+        edits,
+    })
+}
+
 fn plan_command<'a>(alloc: Global) -> Result<Command<'a>, Memory>
     ensures { IfOk result (λ c. app_of c ≡ plan_app) }
 {
-    let command = train_command(alloc, "plan")?;
-    let command = with_value(alloc, command, "plan")?;
+    let command = case_command(alloc, "plan")?;
     let command = with_option(alloc, command, "print", true)?;
     with_option(alloc, command, "edits", false)
 }
@@ -207,18 +233,9 @@ fn plan_command<'a>(alloc: Global) -> Result<Command<'a>, Memory>
 fn plan_of<'a>(matches: &ArgMatches<'a>) -> Option<Request<'a>>
     ensures { option_map view result ≡ plan_in (rows_of (found_of matches.now)) }
 {
-    let line = value_of(matches, "line")?;
-    let stock = value_of(matches, "stock")?;
-    let plan = value_of(matches, "plan")?;
+    let case = case_of(matches)?;
     let print = print_of(value_of(matches, "print")?)?;
-    let edits = value_of(matches, "edits");
-    Some(Request::Plan(PlanForm {
-        line,
-        stock,
-        plan,
-        print,
-        edits,
-    }))
+    Some(Request::Plan(PlanForm { case, print }))
 }
 
 // What a plan is asked to print.
@@ -228,6 +245,34 @@ fn print_of(word: &str) -> Option<Print>
     match word {
         "envelope" => Some(Print::Envelope),
         "timetable" => Some(Print::Timetable),
+        "cert" => Some(Print::Cert),
         _ => None,
     }
+}
+
+// Reads `check LINE STOCK PLAN CERT [--edits FILE]`.
+fn read_check<'a>(alloc: Global, words: &'a [String]) -> Result<Option<Request<'a>>, Memory>
+    ensures { IfOk result (λ r. option_map view r
+        ≡ option_and_then check_in (rows_in check_app (map string_bytes words.entry.now))) }
+{
+    match matches_by(check_command(alloc)?, words)? {
+        None => Ok(None),
+        Some(matches) => Ok(check_of(&matches)),
+    }
+}
+
+fn check_command<'a>(alloc: Global) -> Result<Command<'a>, Memory>
+    ensures { IfOk result (λ c. app_of c ≡ check_app) }
+{
+    let command = case_command(alloc, "check")?;
+    let command = with_value(alloc, command, "cert")?;
+    with_option(alloc, command, "edits", false)
+}
+
+fn check_of<'a>(matches: &ArgMatches<'a>) -> Option<Request<'a>>
+    ensures { option_map view result ≡ check_in (rows_of (found_of matches.now)) }
+{
+    let case = case_of(matches)?;
+    let cert = value_of(matches, "cert")?;
+    Some(Request::Check(CheckForm { case, cert }))
 }

@@ -55,6 +55,20 @@ pub struct EnvelopeForm<'a> {
     pub stock: &'a str,
 }
 
+/// The files of a case: a train on a line by a plan, under the restrictions that a file of edits leaves
+/// in force.
+#[derive(Drop)]
+pub struct CaseForm<'a> {
+    /// The name of the line's file.
+    pub line: &'a str,
+    /// The name of the train's file.
+    pub stock: &'a str,
+    /// The name of the plan's file.
+    pub plan: &'a str,
+    /// The name of the file of edits, if there is one.
+    pub edits: Option<&'a str>,
+}
+
 /// What a plan is asked to print.
 #[derive(Clone, Copy, Debug, PartialEq, Eq)]
 pub enum Print {
@@ -62,22 +76,27 @@ pub enum Print {
     Envelope,
     /// The times of its calls.
     Timetable,
+    /// The certificate of the fastest run.
+    Cert,
 }
 
-/// `plan LINE STOCK PLAN --print KIND [--edits FILE]`: the fastest run of a train over a line by a
-/// plan, or its timetable, under the restrictions that a file of edits leaves in force.
+/// `plan LINE STOCK PLAN --print KIND [--edits FILE]`: the fastest run of a case, its timetable or its
+/// certificate.
 #[derive(Drop)]
 pub struct PlanForm<'a> {
-    /// The name of the line's file.
-    pub line: &'a str,
-    /// The name of the train's file.
-    pub stock: &'a str,
-    /// The name of the plan's file.
-    pub plan: &'a str,
+    /// The case.
+    pub case: CaseForm<'a>,
     /// What is printed.
     pub print: Print,
-    /// The name of the file of edits, if there is one.
-    pub edits: Option<&'a str>,
+}
+
+/// `check LINE STOCK PLAN CERT [--edits FILE]`: whether a certificate is that of a case.
+#[derive(Drop)]
+pub struct CheckForm<'a> {
+    /// The case.
+    pub case: CaseForm<'a>,
+    /// The name of the certificate's file.
+    pub cert: &'a str,
 }
 
 /// What the words of a command line ask for.
@@ -93,6 +112,8 @@ pub enum Request<'a> {
     Brakes(BrakesForm<'a>),
     /// The fastest run of a train over a line.
     Envelope(EnvelopeForm<'a>),
-    /// The fastest run by a plan, or its timetable.
+    /// The fastest run by a plan, its timetable or its certificate.
     Plan(PlanForm<'a>),
+    /// The check of a certificate.
+    Check(CheckForm<'a>),
 }

@@ -17,3 +17,6 @@ returns-in-Envelope g c = rw c.in-Envelope.is c.serve-in-Envelope.ensures
 
 pub returns-in-Plan : goal.returns-in-Plan
 returns-in-Plan g c = rw c.in-Plan.is c.serve-in-Plan.ensures
+
+pub returns-in-Check : goal.returns-in-Check
+returns-in-Check g c = rw c.in-Check.is c.serve-in-Check.ensures

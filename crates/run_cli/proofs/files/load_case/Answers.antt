@@ -32,5 +32,6 @@ pub invariant_of-result : goal.invariant_of-result
 invariant_of-result g c = record {
   lies = c.in_ok-plan.ensures.plan.kept.1;
   fast = c.in_ok-line.ensures.stock.kept.fast;
+  short = c.in_ok-line.ensures.line.kept.long;
   placed = AreInForce-lie c.in_ok-line.line (name_in c.args.form.now.edits) _ c.in_ok-plan.force.pairs c.in_ok-plan.ensures.force;
 }
