@@ -4,7 +4,7 @@
     python3 tests/compare.py [COUNT [SEED]]
 
 draws COUNT lines, trains and plans from SEED, the same ones at each run, asks the program for `stock`, `caps`,
-`rise`, `brakes`, `envelope` and `plan` over each, for some of them `plan` under drawn edits too, and compares
+`rise`, `brakes`, `envelope`, `plan` and `check` over each, for some of them under drawn edits too, and compares
 whole outputs and exit statuses with what the model says. It compares as well how `stock` refuses trains that
 break a law of their tables, and all commands over the lines and trains of examples/. At the end it prints how
 many of the trains drawn ran the whole line, how many were stalled, and what the edits were. tests/run.py makes
@@ -374,6 +374,24 @@ class Ride:
             return 6, f"stalled {self.stall}\n"
         return 0, numbers_text(self.run)
 
+    @cached_property
+    def certificate(self) -> str:
+        """The text of the certificate."""
+        braking = self.drive.brakes(self.caps)
+        run = self.run or self.drive.keeps(self.caps, self.stall - 1)[: self.stall]
+        speeds = [*map(str, run), *["-"] * (len(braking) - len(run))]
+        rows = (f"{c} {e}" for c, e in zip(braking, speeds, strict=True))
+        return records_text([*rows, self.verdict])
+
+    @property
+    def verdict(self) -> str:
+        """How far the train gets, as a certificate says it."""
+        return "whole" if self.stall is None else f"stalled {self.stall}"
+
+    def certified(self) -> Answer:
+        """What a command answers that prints the certificate."""
+        return 0 if self.stall is None else 6, self.certificate
+
     def kinds(self) -> Iterator[str]:
         """The kinds of case that this is one of."""
         if self.run is None:
@@ -458,17 +476,24 @@ class Journey:
         yield ["envelope", "line.csv", "train.toml"], self.free.answer()
         yield [*plan, "envelope"], self.planned.answer()
         yield [*plan, "timetable"], self.timetable_answer()
+        yield [*plan, "cert"], self.planned.certified()
+        check = ["check", "line.csv", "train.toml", "plan.csv"]
+        yield [*check, "cert.txt"], (0, f"valid {self.planned.verdict}\n")
         if self.edits is not None:
-            run, timetable = self.edited_answers()
+            run, timetable, certificate, checked = self.edited_answers()
             yield [*plan, "envelope", "--edits", "edits.txt"], run
             yield [*plan, "timetable", "--edits", "edits.txt"], timetable
+            yield [*plan, "cert", "--edits", "edits.txt"], certificate
+            yield [*check, "edited.txt", "--edits", "edits.txt"], checked
 
-    def edited_answers(self) -> tuple[Answer, Answer]:
-        """What `plan` answers under the edits, where it prints the run and where the timetable."""
+    def edited_answers(self) -> tuple[Answer, Answer, Answer, Answer]:
+        """What `plan` answers under the edits, for each kind of print, and `check` of their certificate."""
         if isinstance(self.held, Refusal):
             refused = 5, f"refused 4 {self.held.line} {self.held.code}\n"
-            return refused, refused
-        return self.restricted.planned.answer(), self.restricted.timetable_answer()
+            return refused, refused, refused, refused
+        ride = self.restricted.planned
+        valid = 0, f"valid {ride.verdict}\n"
+        return ride.answer(), self.restricted.timetable_answer(), ride.certified(), valid
 
     def timetable_answer(self) -> Answer:
         """What `plan` answers where it prints the timetable."""
@@ -510,7 +535,12 @@ class Journey:
             "train.toml": stock_text(self.train),
             "plan.csv": plan_text(self.plan),
         }
-        return files if self.edits is None else files | {"edits.txt": self.edits}
+        files |= {"cert.txt": self.planned.certificate}
+        if self.edits is None:
+            return files
+        is_refused = isinstance(self.held, Refusal)
+        edited = "" if is_refused else self.restricted.planned.certificate
+        return files | {"edits.txt": self.edits, "edited.txt": edited}
 
 
 # Comparing
@@ -560,6 +590,7 @@ def examples() -> Iterator[Result]:
         line = train.parent / "line.csv"
         files = {"line.csv": line.read_text(), "train.toml": train.read_text(), "plan.csv": ""}
         journey = Journey(read_line(files["line.csv"]), read_train(files["train.toml"]), 60, Plan())
+        files["cert.txt"] = journey.planned.certificate
         yield compared(f"{train.stem} on {line.parent.name}", files, journey.answers())
 
 
