@@ -1,0 +1,6 @@
+pub mod RuleFacts
+pub mod SoundFacts
+pub mod CompleteFacts
+pub mod OnceFacts
+pub mod FaultFacts
+pub mod StepFacts
