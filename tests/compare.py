@@ -528,19 +528,22 @@ class Journey:
             return "edits that change nothing"
         return "edits that stall the train" if before.run and not after.run else "edits that change the run"
 
-    def files(self) -> dict[str, str]:
+    def texts(self) -> dict[str, str]:
         """The files that say the line, the train, the plan and, where there are some, the edits."""
-        files = {
+        texts = {
             "line.csv": line_text(self.line, self.plan),
             "train.toml": stock_text(self.train),
             "plan.csv": plan_text(self.plan),
         }
-        files |= {"cert.txt": self.planned.certificate}
+        return texts if self.edits is None else texts | {"edits.txt": self.edits}
+
+    def files(self) -> dict[str, str]:
+        """These files and the certificates, without edits and under them."""
+        files = self.texts() | {"cert.txt": self.planned.certificate}
         if self.edits is None:
             return files
         is_refused = isinstance(self.held, Refusal)
-        edited = "" if is_refused else self.restricted.planned.certificate
-        return files | {"edits.txt": self.edits, "edited.txt": edited}
+        return files | {"edited.txt": "" if is_refused else self.restricted.planned.certificate}
 
 
 # Comparing

@@ -109,7 +109,7 @@ class Script:
 
     def files(self, number: int) -> dict[str, str]:
         """The files of the script, by their names."""
-        said = self.journey.files()
+        said = self.journey.texts()
         kinds = {"line": "line.csv", "train": "train.toml", "plan": "plan.csv"}
         texts = {kind: said[name] for kind, name in kinds.items()} | {"edits": "\n".join(self.edits)}
         return {f"{number}.{kind}": text for kind, text in texts.items()}

@@ -2,12 +2,12 @@
 """Runs the tests over the proved program: tests/run.py [PART ..]
 
 The parts, all of which are run where none is named, are `cases`, those of tests/cases/; `compare`, the
-comparisons of compare.py; `kept`, edits of an envelope that is kept right (kept.py); `runner`, broken
-cases that the runner has to fail (runner.py); `wrapper`, the calls of `./rtime` (wrapper.py);
-`documents`, the commands of the documents (documents.py); and `mistakes`, that the manual's table of
-mistakes and the cases of mistakes say the same (mistakes.py). It ends with a line 'N passed, M failed',
-and before it says how many were skipped, where some were. A program that is older than its sources
-fails, and nothing is run.
+comparisons of compare.py; `certificates`, changed certificates (certificates.py); `kept`, edits of an
+envelope that is kept right (kept.py); `runner`, broken cases that the runner has to fail (runner.py);
+`wrapper`, the calls of `./rtime` (wrapper.py); `documents`, the commands of the documents
+(documents.py); and `mistakes`, that the manual's table of mistakes and the cases of mistakes say the same
+(mistakes.py). It ends with a line 'N passed, M failed', and before it says how many were skipped, where
+some were. A program that is older than its sources fails, and nothing is run.
 
 Each file of tests/cases/ is TOML and has tables `[[case]]` with
 
@@ -64,6 +64,7 @@ from collections import Counter
 
 sys.dont_write_bytecode = True  # the sources have no folder of compiled ones beside them
 
+import certificates
 import compare
 import documents
 import kept
@@ -358,6 +359,7 @@ def case_results():
 PARTS = {
     "cases": case_results,
     "compare": compare.comparisons,
+    "certificates": certificates.results,
     "kept": kept.results,
     "runner": runner.results,
     "wrapper": wrapper.results,

@@ -164,7 +164,8 @@ pub fn write_valid<K: Sink>(out: &mut K, reach: Reach) -> Result<(), Failed>
 // Puts how far a train gets on an empty block.
 fn put_reach(block: &mut Block, reach: Reach)
     requires { block.old ≡ [] }
-    ensures { block.new ≡ reach_text reach }
+    ensures text { block.new ≡ reach_text reach }
+    ensures short { length block.new ≤ 29 }
 {
     match reach {
         Reach::Whole => block.put(b"whole\n"),
