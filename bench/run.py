@@ -289,6 +289,29 @@ def print_cases(programs: Sequence[pathlib.Path], turns: int, only: str) -> None
         row([case.name, *columns, *(megabytes(each.memory) for each in found)])
 
 
+def print_certificates(program: pathlib.Path, turns: int, only: str) -> None:
+    """Prints what certificates cost beside the command that prints the run alone."""
+    head(["command", "ms", "beside", "ms", "ratio", "MB"])
+    limits, hilly = spread(LONGEST, 200), hills(LONGEST)
+    case = Case("plan --print envelope", LONGEST, limits, hilly, "hilly, 100 stops", halts(LONGEST, 100))
+    if only not in f"{case.name} cert check":
+        return
+    with tempfile.TemporaryDirectory() as folder:
+        for name, text in case.files().items():
+            (pathlib.Path(folder) / name).write_text(text)
+        os.chdir(folder)
+        *plan, _ = COMMANDS[case.command].words
+        run, certificate = [[str(program), *plan, kind] for kind in ("envelope", "cert")]
+        pathlib.Path("cert.txt").write_bytes(answer(certificate))
+        check = [str(program), "check", *plan[1:4], "cert.txt"]
+        for name, words in (("plan --print cert", certificate), ("check", check)):
+            seconds, beside = least_seconds([words, run], turns)
+            ratio = f"{seconds / beside:.2f}"
+            memory = megabytes(greatest_memory(words))
+            row([name, milliseconds(seconds), case.command, milliseconds(beside), ratio, memory])
+        os.chdir(TOP)
+
+
 def print_growth(programs: Sequence[pathlib.Path], turns: int, only: str) -> None:
     """Prints how the cost of each command grows with what it is given."""
     names = NAMES[: len(programs)]
@@ -356,6 +379,8 @@ def main() -> int:
     pin()
     print(f"{machine()}\n")
     print_cases(programs, given.turns, given.only)
+    print()
+    print_certificates(program, given.turns, given.only)
     print()
     print_growth(programs, given.turns, given.only)
     return 0

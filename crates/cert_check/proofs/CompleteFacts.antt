@@ -1,17 +1,15 @@
 -- The braking list and the envelope are right at each point.
-use Rattle.std.proofs.Common.{◌≡◌, ℕ, ◌+◌, ◌-◌, ◌<◌, ◌≤◌, List, length, slice_index, take, drop, arith, refl, subst, sym, ◌∙◌}
-use Rattle.std.proofs.lemmas.List.{length-take-le, take_all, take_at}
+use Rattle.std.proofs.Common.{◌≡◌, ℕ, ◌+◌, ◌-◌, ◌<◌, List, length, slice_index, take, arith, refl, subst, sym}
+use Rattle.std.proofs.lemmas.List.{take_all}
 use Rattle.unit_rules.specs.declared.Reach.{Reach}
 use Rattle.unit_rules.specs.declared.Reach.TheVariants.{Whole, Stalled}
-use Rattle.run_rules.specs.Drives.{HoldsEnvelope}
-use Rattle.run_rules.specs.Runs.{IsBrakingList, IsEnvelopeTo, IsGreatestRun, IsStalled, Keeps, ReachesAs, StepRule}
-use Rattle.run_rules.specs.Walks.{EndsAt, IsBlockedAfter, IsOwnBrakingList, count_of}
-use Rattle.run_rules.proofs.AgreeFacts.{EndsAt-holds}
+use Rattle.run_rules.specs.Runs.{IsBrakingList, IsEnvelopeTo, IsGreatestRun, IsStalled, Keeps, StepRule}
+use Rattle.run_rules.specs.Walks.{IsBlockedAfter}
 use Rattle.run_rules.proofs.BrakingFacts.{keeps_braking_list, keeps_caps, points_by_braking_list}
 use Rattle.run_rules.proofs.DrivingFacts.{IsBlockedAfter-same, IsDrivable, IsDriven, IsDriven-same, joined, joined-before, joined_keeps}
 use Rattle.run_rules.proofs.EnvelopeFacts.{IsBlockedAfter-stalled, IsDriven-envelope}
 use Rattle.cert_check.specs.Laws.{IsCertificateOf}
-use Rattle.cert_check.proofs.RuleFacts.{EndsThere, IsCapped, IsRightByPoints}
+use Rattle.cert_check.proofs.RuleFacts.{IsCapped, IsRightByPoints}
 use Rattle.cert_check.proofs.SoundFacts.{IsDrivable-caps}
 
 -- the envelope under caps is the envelope under their braking list

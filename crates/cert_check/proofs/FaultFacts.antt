@@ -1,6 +1,8 @@
 -- The first of the broken rules.
-use Rattle.std.proofs.Common.{◌≡◌, ◌≢◌, ℕ, ◌+◌, ◌<◌, ◌≤◌, ◌⊎◌, List, length, slice_index, arith, refl, sym, ◌∙◌, inl, inr}
-use Rattle.std.proofs.lemmas.Bool.{cases_lt, cases_order}
+use Rattle.std.proofs.Common.{◌≡◌, ℕ, ◌+◌, ◌<◌, ◌≤◌, ◌⊎◌, List, length, slice_index, arith, refl, sym, ◌∙◌, inl, inr}
+use Rattle.std.proofs.lemmas.Bool.{cases_lt, cases_order, iff_false}
+use Rattle.std.specs.Bool.{then_some}
+use Rattle.std.specs.Prelude.{Bool, IfNone, IfSome, IsTrue, true, false, ◌↔◌}
 use Rattle.unit_rules.specs.declared.Reach.{Reach}
 use Rattle.unit_rules.specs.declared.Reach.TheVariants.{Whole, Stalled}
 use Rattle.run_rules.specs.Runs.{StepRule}
@@ -8,13 +10,13 @@ use Rattle.cert_check.specs.Faults.{ComesBefore, IsFirstBroken, IsLeastBroken, K
 use Rattle.cert_check.specs.Rules.{BrakesEarly, BrakesLate, BreaksPointRule, BreaksRule, BreaksSpeedRule, CanBrake, EndsElsewhere, HasOtherPoints, IsAboveCap, IsCertified, StandsTwice}
 
 -- the numbers of the rules at a point
-pub speed_rule-number : (rule : StepRule) (c e : List ℕ) (i r : ℕ) → BreaksSpeedRule rule c e i r → (4 ≤ r) × (r ≤ 6) × (i < length e)
+speed_rule-number : (rule : StepRule) (c e : List ℕ) (i r : ℕ) → BreaksSpeedRule rule c e i r → (4 ≤ r) × (r ≤ 6) × (i < length e)
 speed_rule-number rule c e i r broken = elim broken [
   | inl b ↦ (omega (arith, b.0), omega (arith, b.0), b.1)
   | inr other ↦ elim other [ inl b ↦ (omega (arith, b.0), omega (arith, b.0), b.1) | inr b ↦ (omega (arith, b.0), omega (arith, b.0), b.1) ]
 ]
 
-pub point_rule-number : (rule : StepRule) (x c e : List ℕ) (i r : ℕ) → BreaksPointRule rule x c e i r → (2 ≤ r) × (r ≤ 8) × ((i < length x) ⊎ (i < length e))
+point_rule-number : (rule : StepRule) (x c e : List ℕ) (i r : ℕ) → BreaksPointRule rule x c e i r → (2 ≤ r) × (r ≤ 8) × ((i < length x) ⊎ (i < length e))
 point_rule-number rule x c e i r broken = elim broken [
   | inl b ↦ (omega (arith, b.0), omega (arith, b.0), inl b.1)
   | inr other ↦ elim other [
@@ -77,16 +79,27 @@ IsLeastBroken-late rule x c e i kept speed late = record {
   least = point_rules-below rule x c e i 7 (λ h. kept.capped) (λ h. kept.late_enough) (λ s h. speed s) (λ h b. omega arith) (λ h k b. omega arith);
 }
 
-pub IsLeastBroken-stands : (rule : StepRule) (x c e : List ℕ) (i : ℕ) → KeepsBraking rule x c i → KeepsAll (BreaksSpeedRule rule c e i) → CanBrake rule c i (slice_index c i)
+IsLeastBroken-stands : (rule : StepRule) (x c e : List ℕ) (i : ℕ) → KeepsBraking rule x c i → KeepsAll (BreaksSpeedRule rule c e i) → CanBrake rule c i (slice_index c i)
     → i < length e → StandsTwice e i → IsLeastBroken (BreaksPointRule rule x c e i) 8
 IsLeastBroken-stands rule x c e i kept speed brakes l stands = record {
   broken = inr (inr (inr (inr (refl, l, stands))));
   least = point_rules-below rule x c e i 8 (λ h. kept.capped) (λ h. kept.late_enough) (λ s h. speed s) (λ h late. late brakes) (λ h k b. omega arith);
 }
 
-pub KeepsAll-point : (rule : StepRule) (x c e : List ℕ) (i : ℕ) → KeepsBraking rule x c i → KeepsAll (BreaksSpeedRule rule c e i) → CanBrake rule c i (slice_index c i)
+KeepsAll-point : (rule : StepRule) (x c e : List ℕ) (i : ℕ) → KeepsBraking rule x c i → KeepsAll (BreaksSpeedRule rule c e i) → CanBrake rule c i (slice_index c i)
     → (i < length e → StandsTwice e i → ⊥) → KeepsAll (BreaksPointRule rule x c e i)
 KeepsAll-point rule x c e i kept speed brakes moves r = point_rules-below rule x c e i (r + 1) (λ h. kept.capped) (λ h. kept.late_enough) (λ s h. speed s) (λ h late. late brakes) (λ h. moves) r (omega arith)
+
+-- so where rules 2 to 7 are kept, whether the train stands twice tells which
+pub IfSome-stands : (rule : StepRule) (x c e : List ℕ) (i : ℕ) (b : Bool) → IsTrue b ↔ ((i < length e) × StandsTwice e i) → KeepsBraking rule x c i → KeepsAll (BreaksSpeedRule rule c e i)
+    → CanBrake rule c i (slice_index c i) → IfSome (then_some b 8) (IsLeastBroken (BreaksPointRule rule x c e i))
+IfSome-stands rule x c e i true same kept speed brakes = let stands = same.0 refl in IsLeastBroken-stands rule x c e i kept speed brakes stands.0 stands.1
+IfSome-stands rule x c e i false same kept speed brakes = tt
+
+pub IfNone-stands : (rule : StepRule) (x c e : List ℕ) (i : ℕ) (b : Bool) → IsTrue b ↔ ((i < length e) × StandsTwice e i) → KeepsBraking rule x c i → KeepsAll (BreaksSpeedRule rule c e i)
+    → CanBrake rule c i (slice_index c i) → IfNone {T = ℕ} (then_some b 8) (KeepsAll (BreaksPointRule rule x c e i))
+IfNone-stands rule x c e i true same kept speed brakes = tt
+IfNone-stands rule x c e i false same kept speed brakes = KeepsAll-point rule x c e i kept speed brakes (λ l stands. iff_false same refl (l, stands))
 
 rule-number : (rule : StepRule) (x c e : List ℕ) (verdict : Reach) (i r : ℕ) → BreaksRule rule x c e verdict i r → (1 ≤ r) × (r ≤ 9)
 rule-number rule x c e verdict i r broken = elim broken [

@@ -1,5 +1,5 @@
 -- Under the same caps there is one certificate.
-use Rattle.std.proofs.Common.{◌≡◌, ◌↔◌, ℕ, ◌-◌, ◌<◌, ◌≤◌, List, length, slice_index, take, ap, arith, refl, sym, ◌∙◌}
+use Rattle.std.proofs.Common.{◌≡◌, ℕ, List, length, slice_index, take, ap, arith, refl, sym, ◌∙◌}
 use Rattle.std.proofs.lemmas.List.{ext_get_or, get_or-take, take_all}
 use Rattle.unit_rules.specs.declared.Reach.{Reach}
 use Rattle.unit_rules.specs.declared.Reach.TheVariants.{Whole, Stalled}
@@ -16,7 +16,7 @@ use Rattle.cert_check.proofs.SoundFacts.{IsCertificateOf-right}
 same_most : (a b : List ℕ) (n : ℕ) → length a ≡ n → length b ≡ n → AtMost a b n → AtMost b a n → a ≡ b
 same_most a b n long other most least = ext_get_or 0 a b (long ∙ sym other) (λ i l. let up = most i (omega arith) in let down = least i (omega arith) in omega arith)
 
-brakes_once : (rule : StepRule) (x c d : List ℕ) → IsBrakingList rule x c → IsBrakingList rule x d → c ≡ d
+pub brakes_once : (rule : StepRule) (x c d : List ℕ) → IsBrakingList rule x c → IsBrakingList rule x d → c ≡ d
 brakes_once rule x c d list other = same_most c d (length x) list.keeps.same_points other.keeps.same_points (other.greatest c list.keeps) (list.greatest d other.keeps)
 
 -- the numbers of an envelope are those of a list that keeps the rule so far
@@ -35,7 +35,7 @@ envelope_once rule x e f k long other one two =
     let second : IsEnvelopeTo rule x f k = rw all_other at two in
     same_most e f k long other (at_most_envelope rule x e f k first second) (at_most_envelope rule x f e k second first)
 
-reaches_once : (rule : StepRule) (x e f : List ℕ) (verdict other : Reach) → ReachesAs rule x e verdict → length e ≡ count_of (length x) verdict
+pub reaches_once : (rule : StepRule) (x e f : List ℕ) (verdict other : Reach) → ReachesAs rule x e verdict → length e ≡ count_of (length x) verdict
     → ReachesAs rule x f other → length f ≡ count_of (length x) other → (e ≡ f) × (verdict ≡ other)
 reaches_once rule x e f Whole Whole one long two other_long = (same_most e f (length x) long other_long (two.greatest e one.run) (one.greatest f two.run), refl)
 reaches_once rule x e f Whole (Stalled k) one long two other_long = absurd (runs_or_stalls rule x e k one.run two.0)

@@ -1,5 +1,5 @@
 -- The rules of a certificate by points: what no broken rule says of the numbers there, and the other way round.
-use Rattle.std.proofs.Common.{◌≡◌, ℕ, ◌+◌, ◌-◌, ◌<◌, ◌≤◌, ℤ, pos, ◌≤ℤ◌, ◌<ℤ◌, ◌⊎◌, List, length, slice_index, arith, refl, sym, inl, inr}
+use Rattle.std.proofs.Common.{◌≡◌, ℕ, ◌+◌, ◌-◌, ◌<◌, ◌≤◌, ℤ, pos, ◌≤ℤ◌, ◌<ℤ◌, ◌⊎◌, List, length, slice_index, arith, refl, inl, inr}
 use Rattle.std.specs.Int.{int_min}
 use Rattle.std.proofs.lemmas.Bool.{cases_eq, cases_lt}
 use Rattle.std.proofs.lemmas.Int.{by_lt_z, clamps, ints}
@@ -9,7 +9,7 @@ use Rattle.run_rules.specs.Runs.{IsMonotone, StepRule}
 use Rattle.run_rules.specs.Walks.{IsBlockedAfter, IsGreatestAt, IsNext, IsNextNumber}
 use Rattle.run_rules.proofs.DrivingFacts.{IsDriven, IsDriven-capped}
 use Rattle.cert_check.specs.Faults.{KeepsAll}
-use Rattle.cert_check.specs.Rules.{BreaksPointRule, BreaksRule, BreaksSpeedRule, BrakesEarly, EndsElsewhere, FallsShort, HasOtherPoints, IsCertified, Outruns, ShowsStall, StandsTwice}
+use Rattle.cert_check.specs.Rules.{BreaksPointRule, BreaksSpeedRule, BrakesEarly, EndsElsewhere, FallsShort, IsCertified, ShowsStall}
 
 -- the caps are in the range of a rule that never falls as the speed rises
 pub record IsCapped (rule : StepRule) (x : List ℕ) (top : ℕ) : Type 0 where

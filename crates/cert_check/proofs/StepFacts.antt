@@ -1,5 +1,5 @@
 -- The step rule of a train, and the caps of its limits.
-use Rattle.std.proofs.Common.{◌≡◌, ℕ, ◌+◌, ◌-◌, ◌<◌, ◌≤◌, pos, ◌≤ℤ◌, ap, arith, List, length, slice_index}
+use Rattle.std.proofs.Common.{◌≡◌, ℕ, ◌-◌, ◌<◌, ◌≤◌, pos, ◌≤ℤ◌, ap, arith, List, length, slice_index}
 use Rattle.std.proofs.lemmas.Int.{ints}
 use Rattle.run_rules.specs.Grids.{row}
 use Rattle.run_rules.specs.Runs.{IsMonotone}

@@ -1,7 +1,7 @@
 -- The rules that a certificate keeps, by what breaks each. A certificate claims that under the caps x a train has the
 -- braking list c and the envelope e, and gets as far as its verdict says. Each rule looks at one point and its
 -- neighbours, and none of them says "greatest".
-use Rattle.std.specs.Prelude.{◌≡◌, ◌≢◌, ℕ, ◌+◌, ◌-◌, ◌<◌, ◌≤◌, ℤ, pos, ◌≤ℤ◌, ◌<ℤ◌, ◌⊎◌, List, length, slice_index}
+use Rattle.std.specs.Prelude.{◌≡◌, ◌≢◌, ℕ, ◌+◌, ◌-◌, ◌<◌, ◌≤◌, pos, ◌≤ℤ◌, ◌<ℤ◌, ◌⊎◌, List, length, slice_index}
 use Rattle.std.specs.Int.{int_min}
 use Rattle.unit_rules.specs.declared.Reach.{Reach}
 use Rattle.unit_rules.specs.declared.Reach.TheVariants.{Whole, Stalled}

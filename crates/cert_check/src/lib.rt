@@ -18,10 +18,15 @@ use step_rule::Rule;
 use table_laws::Near;
 use unit_rules::{Reach, Steps};
 
-/// The first rule that a certificate breaks.
+/// The first rule that a certificate breaks. Speeds are squared, in (0.01 km/h)².
 #[derive(Debug, Drop)]
 pub struct CertFault {
-    /// The rule's number, 1 to 9.
+    /// The rule's number, by what breaks it: 1, there isn't a braking number for each point, or there
+    /// are more speeds than points; 2, a braking number is above its cap; 3, it is below the cap,
+    /// though the train can brake from one more; 4, a speed is above its braking number; 5, it is below
+    /// its braking number, at the first point or where full effort gives more; 6, full effort doesn't
+    /// give as much; 7, from a braking number the train can't brake to the next; 8, the train stands
+    /// at a point and at the one before; 9, the verdict isn't shown.
     pub rule: u32,
     /// The point at which it is broken. A stall may be claimed, and not shown, at any number.
     pub point: u32,
@@ -161,10 +166,7 @@ fn point_fault<L: Ledger>(
     if !can_brake(rule, c, point, here, steps) {
         return Some(7);
     }
-    if stands_twice(e, point) {
-        return Some(8);
-    }
-    None
+    stands_twice(e, point).then_some(8)
 }
 
 // Whether the braking number at a point is below the cap there, though the train can brake from one more.
@@ -242,12 +244,9 @@ fn speed_fault<L: Ledger>(
     }
     let up = rule.up_near(point - 1, before, near, steps);
     if i64::from(speed) > up {
-        Some(6)
-    } else if speed < most && i64::from(speed) < up {
-        Some(5)
-    } else {
-        None
+        return Some(6);
     }
+    (speed < most && i64::from(speed) < up).then_some(5)
 }
 
 // Whether the train stands at a point and at the one before.

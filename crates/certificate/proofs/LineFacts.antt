@@ -19,7 +19,6 @@ use Rattle.unit_rules.specs.declared.Reach.TheVariants.{Whole, Stalled}
 use Rattle.certificate.specs.declared.lines.Line.{Line}
 use Rattle.certificate.specs.declared.lines.Line.TheVariants.{Full, Dashed, Verdict}
 use Rattle.certificate.specs.Lines.{is_line_feed, is_space, line_of, line_of_two, line_of_words, number_of, row_of}
-
 use Rattle.certificate.specs.Texts.{Fits32, HasPoint, dashed_row, full_row, verdict_line}
 
 -- the text of a line

@@ -1,10 +1,13 @@
 -- That what was driven is a certificate, and that the certificate that is printed is valid.
-use Rattle.std.proofs.Common.{◌≡◌, ℕ, ◌+◌, ◌-◌, ◌<◌, ◌≤◌, List, [], length, slice_index, get_or-take, All, Option, Some, None, Ok, arith, refl, inl, sym, ap, ◌∙◌}
+use Rattle.std.proofs.Common.{◌≡◌, ℕ, ◌+◌, ◌-◌, ◌<◌, ◌≤◌, List, [], length, slice_index, get_or-take, All, Option, Some, None, Result, Ok, Err, IfOk, IfErr, arith, refl, inl, inr, subst, sym, ap, ◌∙◌}
 use Rattle.std.proofs.lemmas.List.Elements.{All-from_get_or}
 use Rattle.case_rules.specs.Case.{train_rule}
 use Rattle.cert_check.proofs.OnceFacts.{right_certified}
 use Rattle.cert_check.proofs.RuleFacts.{IsCapped}
+use Rattle.cert_check.specs.Faults.{IsFirstBroken}
 use Rattle.cert_check.specs.Laws.{IsCertificateOf}
+use Rattle.cert_check.specs.Rules.{IsCertified}
+use Rattle.cert_check.specs.declared.CertFault.{CertFault}
 use Rattle.certificate.proofs.ReadFacts.{read_as_cert-text}
 use Rattle.certificate.specs.Reading.{read_as_cert}
 use Rattle.certificate.specs.Texts.{CertView, Fits32, HasPoint, IsCert, cert_text}
@@ -24,7 +27,7 @@ use Rattle.unit_rules.specs.declared.Reach.{Reach}
 use Rattle.unit_rules.specs.declared.Reach.TheVariants.{Whole, Stalled}
 use Rattle.unit_rules.specs.declared.Zone.{Zone}
 use Rattle.run_cli.proofs.TimeFacts.{caps_under-le, length-caps_under, squared-small}
-use Rattle.run_cli.specs.Check.{IsChecked, check_meaning}
+use Rattle.run_cli.specs.Check.{IsChecked, check_meaning, found_status, found_text}
 use Rattle.run_cli.specs.Envelope.{envelope_status}
 use Rattle.run_cli.specs.FileForms.{ByCert, ByEdits, ByPlan}
 use Rattle.run_cli.specs.Files.{cert_reading, table_in}
@@ -129,3 +132,17 @@ printed_are_valid names cert_name files s t by_line there =
     let by_plan = by_stock.2 in
     let valid = edits-valid cert_name files by_line.0 by_stock.0 by_plan.0 names.edits s t there by_plan.2 in
     (valid.0, (by_line.0, by_line.1, (by_stock.0, by_stock.1, (by_plan.0, by_plan.1, valid.1))))
+
+-- what was found of a certificate is what answers
+pub checked-answers : (line : LineView) (stock : StockView) (plan : PlanView) (force : List (List ℕ × Zone)) (cert : CertView) (r : Result Reach CertFault) → IfOk r (λ reach. reach ≡ cert.verdict)
+    → IfOk r (λ reach. IsCertified (train_rule line stock) (caps_under line stock plan force) cert.c cert.e reach)
+    → IfOk r (λ reach. IsCertificateOf (train_rule line stock) (caps_under line stock plan force) cert.c cert.e reach)
+    → IfErr r (λ fault. IsFirstBroken (train_rule line stock) (caps_under line stock plan force) cert.c cert.e cert.verdict fault.point fault.rule)
+    → IsChecked line stock plan force cert (found_status r) (found_text r)
+checked-answers line stock plan force cert (Ok reach) same certified right broken = inl (record {
+  certified = subst (λ (v : Reach). IsCertified (train_rule line stock) (caps_under line stock plan force) cert.c cert.e v) same certified;
+  right = subst (λ (v : Reach). IsCertificateOf (train_rule line stock) (caps_under line stock plan force) cert.c cert.e v) same right;
+  is = record { status_is = refl; text_is = ap valid_text same };
+})
+checked-answers line stock plan force cert (Err fault) same certified right broken =
+    inr (record { rule = fault.rule; point = fault.point; first = broken; is = record { status_is = refl; text_is = refl } })

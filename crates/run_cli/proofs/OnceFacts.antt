@@ -1,6 +1,5 @@
 -- That there is one answer at most.
 use Rattle.std.proofs.Common.{◌≡◌, ℕ, List, [], length, Option, Some, None, sym, ap, subst, ◌∙◌, inl, inr, arith}
-use Rattle.std.proofs.lemmas.Grind.{same_number_lists}
 use Rattle.case_rules.specs.Case.{train_rule}
 use Rattle.incr_envelope.specs.Envelope.{caps_under}
 use Rattle.line_tables.specs.Line.{LineView}
@@ -10,7 +9,7 @@ use Rattle.report_text.specs.Timetables.{timetable_text}
 use Rattle.allowances.specs.Rows.{rows_of}
 use Rattle.run_io.specs.Fetches.{Files}
 use Rattle.run_rules.proofs.RunFacts.{runs_or_stalls, stalls_once}
-use Rattle.run_rules.specs.Runs.{AtMost}
+use Rattle.run_rules.specs.Runs.{IsGreatestRun}
 use Rattle.stock_tables.specs.Stock.{StockView}
 use Rattle.unit_rules.specs.declared.Zone.{Zone}
 use Rattle.unit_rules.specs.declared.Reach.TheVariants as reach
@@ -84,23 +83,19 @@ ByClaim-once names cert_name files next once =
     ByCase-once names files (λ line stock plan force. ByCert cert_name (next line stock plan force) files)
     (λ line stock plan force. ByCert-once cert_name files (next line stock plan force) (once line stock plan force))
 
--- two lists of which each is at most the other are one
-AtMost-both : (a b : List ℕ) (n : ℕ) → length a ≡ n → length b ≡ n → AtMost a b n → AtMost b a n → a ≡ b
-AtMost-both a b n long same less more =
-    same_number_lists a b (long ∙ sym same) (λ i l. let down = less i (omega (arith, long, l)) in let up = more i (omega (arith, long, l)) in omega (arith, down, up))
-
 pub IsBrakes-once : (table : LineView) (train : StockView) → IsOnce (IsBrakes table train)
 IsBrakes-once table train s r t u a b =
-    let h = a.is_list in
-    let k = b.is_list in
-    let list = AtMost-both a.list b.list (length (caps_under table train empty_plan [])) h.keeps.same_points k.keeps.same_points (k.greatest a.list h.keeps) (h.greatest b.list k.keeps) in
+    let list = brakes_once (train_rule table train) (caps_under table train empty_plan []) a.list b.list a.is_list b.is_list in
     record { one_status = a.is.status_is ∙ sym b.is.status_is; one_text = a.is.text_is ∙ ap list_text list ∙ sym b.is.text_is }
+
+-- there is one greatest run at most
+runs_once : (table : LineView) (train : StockView) (plan : PlanView) (force : List (List ℕ × Zone)) (e f : List ℕ) → IsGreatestRun (train_rule table train) (caps_under table train plan force) e
+    → IsGreatestRun (train_rule table train) (caps_under table train plan force) f → e ≡ f
+runs_once table train plan force e f h k = (reaches_once (train_rule table train) (caps_under table train plan force) e f reach.Whole reach.Whole h h.run.same_points k k.run.same_points).0
 
 pub IsEnvelope-once : (table : LineView) (train : StockView) (plan : PlanView) (force : List (List ℕ × Zone)) → IsOnce (IsEnvelope table train plan force)
 IsEnvelope-once table train plan force s r t u (inl a) (inl b) =
-    let h = a.is_list in
-    let k = b.is_list in
-    let list = AtMost-both a.list b.list (length (caps_under table train plan force)) h.run.same_points k.run.same_points (k.greatest a.list h.run) (h.greatest b.list k.run) in
+    let list = runs_once table train plan force a.list b.list a.is_list b.is_list in
     record { one_status = a.is.status_is ∙ sym b.is.status_is; one_text = a.is.text_is ∙ ap list_text list ∙ sym b.is.text_is }
 IsEnvelope-once table train plan force s r t u (inl a) (inr b) = absurd (runs_or_stalls (train_rule table train) (caps_under table train plan force) a.list b.point a.is_list.run b.is_stalled)
 IsEnvelope-once table train plan force s r t u (inr a) (inl b) = absurd (runs_or_stalls (train_rule table train) (caps_under table train plan force) b.list a.point b.is_list.run a.is_stalled)
@@ -113,9 +108,7 @@ IsEnvelope-once table train plan force s r t u (inr a) (inr b) =
 
 pub IsTimetable-once : (table : LineView) (train : StockView) (plan : PlanView) (force : List (List ℕ × Zone)) → IsOnce (IsTimetable table train plan force)
 IsTimetable-once table train plan force s r t u (inl a) (inl b) =
-    let h = a.is_list in
-    let k = b.is_list in
-    let list = AtMost-both a.list b.list (length (caps_under table train plan force)) h.run.same_points k.run.same_points (k.greatest a.list h.run) (h.greatest b.list k.run) in
+    let list = runs_once table train plan force a.list b.list a.is_list b.is_list in
     record { one_status = a.is.status_is ∙ sym b.is.status_is; one_text = a.is.text_is ∙ ap (λ e. timetable_text plan (rows_of plan table.length e)) list ∙ sym b.is.text_is }
 IsTimetable-once table train plan force s r t u (inl a) (inr b) = absurd (runs_or_stalls (train_rule table train) (caps_under table train plan force) a.list b.stall.point a.is_list.run b.stall.is_stalled)
 IsTimetable-once table train plan force s r t u (inr a) (inl b) = absurd (runs_or_stalls (train_rule table train) (caps_under table train plan force) b.list a.stall.point b.is_list.run a.stall.is_stalled)

@@ -72,7 +72,7 @@ found-whole (Err fault) = refl
 
 found-ends : (r : Result Reach CertFault) → MayRefute (found_status r)
 found-ends (Ok reach) = inl refl
-found-ends (Err fault) = inr (fault.rule, (fault.point, refl))
+found-ends (Err fault) = inr (fault.rule, fault.point, refl)
 
 -- the report is what the form means
 pub check_means : (f : CheckForm) (told : Option Files) (c : Claim) (r : CheckReport) → IsClaim (case_view f.case) f.cert.now told c

@@ -1,6 +1,6 @@
 //! A certificate, ready to be written.
 
-ghost use Rattle.std.specs.Prelude.{◌≤◌, length, OnErr, OnOk};
+ghost use Rattle.std.specs.Prelude.{◌≡◌, ◌≤◌, length, OnErr, OnOk};
 ghost use Rattle.certificate.specs.Texts.{cert_text};
 ghost use Rattle.run_io.specs.Told.{HasCause, Writes, WritesFront};
 

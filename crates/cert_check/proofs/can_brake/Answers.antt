@@ -1,4 +1,4 @@
-use Rattle.std.proofs.Common.{◌+◌, ◌≤◌, pos, ◌≤ℤ◌, arith, refl, slice_index}
+use Rattle.std.proofs.Common.{arith, refl}
 use Rattle.std.proofs.lemmas.Int.{ints}
 use Rattle.cert_check.proofs.StepFacts.{low-le}
 use Rattle.cert_check.proofs.can_brake.Goals as goal

@@ -1,4 +1,4 @@
-use Rattle.std.proofs.Common.{◌≡◌, ℕ, ◌+◌, ◌-◌, ◌<◌, ◌≤◌, arith, inl, inr, length, slice_index}
+use Rattle.std.proofs.Common.{◌≡◌, ◌-◌, arith, inl, inr, length}
 use Rattle.std.proofs.lemmas.Bool.{cases_eq}
 use Rattle.limit_profile.specs.Profile.{caps}
 use Rattle.limit_profile.proofs.CapFacts.{length-caps}

@@ -1,7 +1,6 @@
-use Rattle.std.proofs.Common.{◌+◌, ◌-◌, ◌≤◌, pos, ◌≤ℤ◌, arith, inl, inr, refl, slice_index}
+use Rattle.std.proofs.Common.{◌-◌, arith, inl, inr, refl, slice_index}
 use Rattle.std.proofs.lemmas.Int.{ints}
 use Rattle.step_rule.specs.Hills.{IsHeld}
-use Rattle.step_rule.specs.Motion.{most_of}
 use Rattle.cert_check.proofs.speed_fault.Goals as goal
 
 pub returns-then-holds_speed-clause-none : goal.returns-then-holds_speed-clause-none
