@@ -1,5 +1,5 @@
 -- That what was driven is a certificate, and that the certificate that is printed is valid.
-use Rattle.std.proofs.Common.{◌≡◌, ℕ, ◌+◌, ◌-◌, ◌<◌, ◌≤◌, List, [], length, slice_index, get_or-take, All, Option, Some, None, Result, Ok, Err, IfOk, IfErr, arith, refl, inl, inr, subst, sym, ap, ◌∙◌}
+use Rattle.std.proofs.Common.{◌≡◌, ℕ, ◌+◌, ◌-◌, ◌≤◌, List, [], length, slice_index, get_or-take, All, Option, Some, None, Result, Ok, Err, IfOk, IfErr, arith, refl, inl, inr, subst, sym, ap, ◌∙◌}
 use Rattle.std.proofs.lemmas.List.Elements.{All-from_get_or}
 use Rattle.case_rules.specs.Case.{train_rule}
 use Rattle.cert_check.proofs.OnceFacts.{right_certified}
@@ -10,30 +10,27 @@ use Rattle.cert_check.specs.Rules.{IsCertified}
 use Rattle.cert_check.specs.declared.CertFault.{CertFault}
 use Rattle.certificate.proofs.ReadFacts.{read_as_cert-text}
 use Rattle.certificate.specs.Reading.{read_as_cert}
-use Rattle.certificate.specs.Texts.{CertView, Fits32, HasPoint, IsCert, cert_text}
+use Rattle.certificate.specs.Texts.{CertView, Fits32, HasPoint, cert_text}
 use Rattle.incr_envelope.specs.Envelope.{caps_under}
 use Rattle.line_tables.specs.Line.{LineView}
 use Rattle.plan_tables.specs.Plan.{PlanView}
 use Rattle.report_text.specs.Texts.{valid_text}
 use Rattle.run_io.specs.Fetches.{Files}
-use Rattle.run_rules.specs.Runs.{AtMost, IsBrakingList, IsMonotone, ReachesAs}
+use Rattle.run_rules.specs.Runs.{IsBrakingList, IsMonotone, ReachesAs}
 use Rattle.run_rules.specs.Speeds.{squared}
 use Rattle.run_rules.specs.Walks.{count_of}
-use Rattle.run_words.specs.Requests.{CaseNames}
-use Rattle.run_words.specs.declared.requests.Print.TheVariants as print
 use Rattle.stock_tables.specs.Stock.{StockView}
 use Rattle.unit_rules.specs.Limits.{greatest_speed, longest_line}
 use Rattle.unit_rules.specs.declared.Reach.{Reach}
 use Rattle.unit_rules.specs.declared.Reach.TheVariants.{Whole, Stalled}
 use Rattle.unit_rules.specs.declared.Zone.{Zone}
 use Rattle.run_cli.proofs.TimeFacts.{caps_under-le, length-caps_under, squared-small}
-use Rattle.run_cli.specs.Check.{IsChecked, check_meaning, found_status, found_text}
+use Rattle.run_cli.specs.Check.{IsChecked, found_status, found_text}
 use Rattle.run_cli.specs.Envelope.{envelope_status}
-use Rattle.run_cli.specs.FileForms.{ByCert, ByEdits, ByPlan}
+use Rattle.run_cli.specs.FileForms.{ByCert, ByEdits}
 use Rattle.run_cli.specs.Files.{cert_reading, table_in}
 use Rattle.run_cli.specs.Laws.{PrintedAreValid}
-use Rattle.run_cli.specs.Meanings.{Answer}
-use Rattle.run_cli.specs.Plan.{ShowsCertificate, plan_meaning}
+use Rattle.run_cli.specs.Plan.{ShowsCertificate}
 use Rattle.run_cli.specs.declared.status.Status.{Status}
 use Rattle.run_cli.specs.declared.status.Status.TheVariants.{Done}
 

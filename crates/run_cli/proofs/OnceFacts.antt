@@ -1,5 +1,5 @@
 -- That there is one answer at most.
-use Rattle.std.proofs.Common.{◌≡◌, ℕ, List, [], length, Option, Some, None, sym, ap, subst, ◌∙◌, inl, inr, arith}
+use Rattle.std.proofs.Common.{◌≡◌, ℕ, List, [], Option, Some, None, sym, ap, subst, ◌∙◌, inl, inr}
 use Rattle.case_rules.specs.Case.{train_rule}
 use Rattle.incr_envelope.specs.Envelope.{caps_under}
 use Rattle.line_tables.specs.Line.{LineView}
