@@ -131,7 +131,10 @@ def crates_with_kept(folder: pathlib.Path) -> pathlib.Path:
     """The crate of the program of tests/kept/, among copies of the crates in a folder."""
     left_out = shutil.ignore_patterns("out", "must-fail", "proofs")
     shutil.copytree(TOP / "crates", folder / "crates", ignore=left_out)
-    shutil.copytree(TOP / "tests" / "kept", folder / "crates" / "kept")
+    # the gate takes each `.rt` file for one of a crate that it proves, so this one has another ending
+    source = folder / "crates" / "kept" / "src"
+    source.mkdir(parents=True)
+    shutil.copy(TOP / "tests" / "kept" / "main.rs", source / "main.rt")
     shutil.copy(TOP / "HANDLES", folder)
     crates = (TOP / "crates.txt").read_text()
     (folder / "crates.txt").write_text(f"{crates}kept: {USES}\n")
