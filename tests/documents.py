@@ -13,9 +13,9 @@ Programs that a machine may lack stand behind the word, as in `sh gnuplot`: with
 skipped. Where a command `$ cat NAME` names a file that isn't there, the lines below it are laid as this
 file. An exit status is compared only where a document shows it, by `$ echo $?`.
 
-The blocks of a document run one after the other in one fresh folder, which holds `rtime` and a copy of
-`examples/` at the start: commands are written as from the top of the repository. Each block has a shell
-of its own, which is ended after 60 seconds.
+The blocks of a document run one after the other in one fresh folder, which holds `rtime` and copies of
+`examples/` and `tests/check.py` at the start: commands are written as from the top of the repository. Each
+block has a shell of its own, which is ended after 60 seconds.
 
 Other blocks, indented ones too, aren't run. In them no line begins with `$ ` or `./rtime`, so that no
 command is left out. No block pipes what rtime prints into another program, which would hide how it
@@ -219,4 +219,6 @@ def results():
             folder = pathlib.Path(given)
             (folder / "rtime").symlink_to(compare.TOP / "rtime")
             shutil.copytree(compare.TOP / "examples", folder / "examples")
+            (folder / "tests").mkdir()
+            shutil.copy(compare.TOP / "tests" / "check.py", folder / "tests")
             yield from results_of(str(path.relative_to(compare.TOP)), path.read_text(), folder)
