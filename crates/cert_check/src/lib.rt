@@ -108,11 +108,13 @@ fn first_fault<L: Ledger>(
     Some(CertFault { rule: 9, point })
 }
 
-// What the point before tells of where to look: a stretch of one cap, and a place in the table of push.
+// What the point before tells of where to look: a stretch of one cap, and where its braking number and
+// its speed lie in the tables.
 #[derive(Drop)]
 struct Hints {
     level: Level,
-    near: Near,
+    braking: Near,
+    speed: Near,
 }
 
 impl Hints {
@@ -122,7 +124,8 @@ impl Hints {
     {
         Hints {
             level: Level::empty(),
-            near: Near::new(),
+            braking: Near::new(),
+            speed: Near::new(),
         }
     }
 }
@@ -157,13 +160,13 @@ fn point_fault<L: Ledger>(
     if here > cap {
         return Some(2);
     }
-    if brakes_early(rule, c, point, cap, steps) {
+    if brakes_early(rule, c, point, cap, &mut hints.braking, steps) {
         return Some(3);
     }
-    if let Some(broken) = speed_fault(rule, c, e, point, &mut hints.near, steps) {
+    if let Some(broken) = speed_fault(rule, c, e, point, &mut hints.speed, steps) {
         return Some(broken);
     }
-    if !can_brake(rule, c, point, here, steps) {
+    if !can_brake(rule, c, point, here, &mut hints.braking, steps) {
         return Some(7);
     }
     stands_twice(e, point).then_some(8)
@@ -175,6 +178,7 @@ fn brakes_early<L: Ledger>(
     c: &[u32],
     point: u32,
     cap: u32,
+    near: &mut Near,
     steps: &mut Steps<L>,
 ) -> bool
     requires points { length c.now ≡ cells_of rule.now + 1 }
@@ -185,12 +189,19 @@ fn brakes_early<L: Ledger>(
     ensures cost { steps.new ≤ steps.old + 1 }
 {
     let here = c[point as usize];
-    here < cap && can_brake(rule, c, point, here + 1, steps)
+    here < cap && can_brake(rule, c, point, here + 1, near, steps)
 }
 
 // Whether the train can brake from squared speed `u` at a point to what `c` has at the next. Brakes
 // always slow, so it takes no step where that is no less. At the last point there is nothing to brake to.
-fn can_brake<L: Ledger>(rule: &Rule, c: &[u32], point: u32, u: u32, steps: &mut Steps<L>) -> bool
+fn can_brake<L: Ledger>(
+    rule: &Rule,
+    c: &[u32],
+    point: u32,
+    u: u32,
+    near: &mut Near,
+    steps: &mut Steps<L>,
+) -> bool
     requires points { length c.now ≡ cells_of rule.now + 1 }
     requires on_line { point ≤ cells_of rule.now }
     requires in_range { u ≤ most_of rule.now }
@@ -204,7 +215,7 @@ fn can_brake<L: Ledger>(rule: &Rule, c: &[u32], point: u32, u: u32, steps: &mut 
     if u <= next {
         return true;
     }
-    rule.low(point, u, steps) <= i64::from(next)
+    rule.low_near(point, u, near, steps) <= i64::from(next)
 }
 
 // The least of the rules 4 to 6 that is broken at a point. A speed at the braking number takes no step

@@ -31,8 +31,8 @@ impl<'a> Form for CheckForm<'a> {
 
     ghost are = { λ f. IsClaim (case_view f.case) f.cert.now };
 
-    ghost right = { λ f c r. IsChecked c.case.line c.case.stock c.case.plan c.case.force.pairs c.cert
-        (found_status r.found) (found_text r.found) };
+    ghost right = { λ f c r. IsChecked c.case.line c.case.stock c.case.plan c.case.force.pairs
+        c.cert (found_status r.found) (found_text r.found) };
 
     ghost cost = { λ f c. check_steps c.case.line.length };
 

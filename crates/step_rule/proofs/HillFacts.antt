@@ -1,5 +1,5 @@
 -- Hills that a train's push and its brakes make up for.
-use Rattle.std.proofs.Common.{ℕ, ◌+◌, ◌*◌, ◌≤◌, List, ℤ, pos, ◌≤ℤ◌, ◌+ℤ◌, ◌-ℤ◌, arith, min, inl, inr}
+use Rattle.std.proofs.Common.{◌≡◌, ℕ, ◌+◌, ◌*◌, ◌≤◌, List, ℤ, pos, ◌≤ℤ◌, ◌+ℤ◌, ◌-ℤ◌, arith, min, inl, inr}
 use Rattle.std.proofs.lemmas.Bool.{cases_lt}
 use Rattle.std.proofs.lemmas.Int.{ints, clamps}
 use Rattle.unit_rules.proofs.FloorFacts.{floor_div-at_most, floor_div-mono, floor_div-zero}
@@ -70,3 +70,8 @@ braked-greatest motion cell w at u m gentle b h slow =
           absurd (omega (arith, ints, clamps))
       | inr s ↦ s
     ]
+
+-- on a gentle hill full brakes alone say how slow a train can be
+pub low_from-gentle : (motion : Motion) (pull : ℤ) (u : ℕ) → IsGentle motion pull → u ≤ most_of motion → low_from motion.push.rows motion.brake.rows motion.moved pull u ≡ fall_from motion.brake.rows u
+unfolding IsGentle low_from
+low_from-gentle motion pull u gentle h = let slows = gentle u h in omega (arith, ints, clamps)

@@ -140,7 +140,6 @@ impl Rule {
 
     /// The least squared speed after cell `cell` from squared speed `u` before it: under full
     /// brakes, or at full effort where a hill slows the train more.
-    #[tactic(auto, unfolding(run_rules::specs::StepRules::low_from))]
     pub fn low<L: Ledger>(&self, cell: u32, u: u32, steps: &mut Steps<L>) -> i64
         requires cell { cell < cells_of self.now }
         requires in_range { u ≤ most_of self.now }
@@ -148,9 +147,30 @@ impl Rule {
         ensures cost { steps.new ≡ steps.old + 1 }
         ensures kept { IsMotion self.now }
     {
-        let mut near = Near::new();
-        let up = self.up_near(cell, u, &mut near, steps);
-        up.min(self.fall_near(u, &mut near))
+        self.low_near(cell, u, &mut Near::new(), steps)
+    }
+
+    /// As [`Rule::low`], found sooner where `u` lies at `near`, as it then does.
+    #[tactic(auto, unfolding(run_rules::specs::StepRules::low_from))]
+    pub fn low_near<L: Ledger>(
+        &self,
+        cell: u32,
+        u: u32,
+        near: &mut Near,
+        steps: &mut Steps<L>,
+    ) -> i64
+        requires cell { cell < cells_of self.now }
+        requires in_range { u ≤ most_of self.now }
+        ensures value { result ≡ (step_rule_of self.now).low cell u }
+        ensures cost { steps.new ≡ steps.old + 1 }
+        ensures kept { IsMotion self.now }
+    {
+        if self.is_gentle(cell) {
+            steps.tick();
+            return self.fall_near(u, near);
+        }
+        let up = self.up_near(cell, u, near, steps);
+        up.min(self.fall_near(u, near))
     }
 
     // Under full brakes.
