@@ -1,5 +1,5 @@
 #!/usr/bin/env python3
-"""Tests that the tables "What you typed" of docs/FORMATS.md are the cases of tests/cases/mistakes.toml.
+"""Tests that the tables "What you typed" of docs/MISTAKES.md are the cases of tests/cases/mistakes.toml.
 
 Each row of the document has to be a case with that answer, and each case has to be a row, but those whose
 names begin with "in silence". A row and a case are the same where
@@ -67,7 +67,7 @@ def cases(tables):
 
 def rows_of_document():
     """What each row of the document types, what it answers, and its name."""
-    for typed, answer in rows((TOP / "docs" / "FORMATS.md").read_text()):
+    for typed, answer in rows((TOP / "docs" / "MISTAKES.md").read_text()):
         yield typed_of(typed), answer_of(answer), typed
 
 
@@ -88,7 +88,7 @@ def results():
     """Of each row whether it is a case, and of each case whether it is a row."""
     document, tried = list(rows_of_document()), list(cases_tried())
     yield from missing(document, tried, "case of tests/cases/mistakes.toml")
-    yield from missing(tried, document, "row of docs/FORMATS.md")
+    yield from missing(tried, document, "row of docs/MISTAKES.md")
 
 
 def main():
