@@ -4,7 +4,7 @@
 Over lines, trains and plans that are drawn, the same ones at each run, some under edits, the program prints the
 certificate, and one number, row or verdict of it is changed at random. Then `check` of the program and check.py,
 which was written from docs/CERTIFICATE.md alone, have to answer alike: that the certificate is valid, and that no
-changed one is.
+changed one is. And the crate of the checker may stand on none of those that make what it checks.
 """
 
 import pathlib
@@ -18,6 +18,7 @@ sys.dont_write_bytecode = True  # the sources have no folder of compiled ones be
 
 import check
 from compare import (
+    TOP,
     Answer,
     Journey,
     Refusal,
@@ -30,6 +31,9 @@ from compare import (
     report,
     why_older,
 )
+
+CHECKER = "cert_check"
+WALKS = {"brake_caps", "effort_run", "incr_envelope"}  # the crates that make what is checked
 
 CASES = 200
 CHANGES = 10
@@ -132,8 +136,24 @@ def tried(case: Case, name: str, text: str, kinds: Counter[str]) -> Result:
     return name, answer == other and is_right, f"  {answer}, check.py {other}; {case.texts} {text!r}\n"
 
 
+def crates_below(crate: str, uses: dict[str, list[str]]) -> set[str]:
+    """The crates on which a crate stands, through others too."""
+    below = uses.get(crate, [])
+    return set(below).union(*(crates_below(each, uses) for each in below))
+
+
+def independence() -> Result:
+    """Whether the checker stands on no crate that makes what it checks, by the list of crates."""
+    rows = (line.split(":") for line in (TOP / "crates.txt").read_text().splitlines())
+    uses = {name: below.split() for name, below in rows}
+    below = crates_below(CHECKER, uses)
+    passed = CHECKER in uses and WALKS <= uses.keys() and not below & WALKS
+    return "the checker stands on no walk", passed, f"  {CHECKER} stands on {sorted(below)}\n"
+
+
 def results() -> Iterator[Result]:
     """Tries the certificates of drawn cases, and texts that differ from them in one thing."""
+    yield independence()
     random = Random(SEED)
     kinds: Counter[str] = Counter()
     for number in range(CASES):
