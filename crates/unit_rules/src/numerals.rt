@@ -1,9 +1,10 @@
 //! Canonical numerals: `0`, or digits without a zero in front, after a minus where the number is
 //! below 0.
 
-ghost use Rattle.std.specs.Prelude.{IsTrue, ◌↔◌, slice_index, ◌-◌, pos, negsuc, ◌⊎◌, ◌≤◌, ◌≤ℤ◌, ◌≡◌, ◌≢◌, ℕ, ◌+◌, ◌^◌, ◌<◌, ℤ, IfSome, IfNone, FitsSigned};
+ghost use Rattle.std.specs.Prelude.{IsTrue, ◌↔◌, slice_index, ◌-◌, pos, negsuc, ◌⊎◌, ◌≤◌, ◌≤ℤ◌, ◌≡◌, ◌≢◌, ℕ, ◌+◌, ◌*◌, ◌^◌, ◌<◌, ℤ, IfSome, IfNone, FitsSigned};
 ghost use Rattle.std.specs.Fmt.{decimal, signed_decimal};
-ghost use Rattle.std.specs.Int.{w64};
+ghost use Rattle.std.specs.Char.{digit_value};
+ghost use Rattle.std.specs.Int.{IsInRange, w64};
 ghost use Rattle.unit_rules.specs.Numeral.{number_in, signed_within, whole_of, within};
 
 /// The number that the text is the canonical numeral of, if it is one of an `i64`.
@@ -53,16 +54,34 @@ fn read_digits(text: &[u8]) -> Option<u64>
     let Some(first) = text.first() else {
         return None;
     };
-    if !first.is_ascii_digit() || (*first == b'0' && text.len() != 1) {
+    if *first == b'0' && text.len() != 1 {
         return None;
     }
-    let Ok(text) = str::from_utf8(text) else {
+    let mut number = 0;
+    for byte in text {
+        let Some(more) = with_digit(number, *byte) else {
+            return None;
+        };
+        number = more;
+    }
+    Some(number)
+}
+
+// The number whose digits are those of a number, and one more.
+fn with_digit(number: u64, digit: u8) -> Option<u64>
+    ensures value { IfSome result (λ n. IsInRange 48 57 digit
+        × (n ≡ number * 10 + digit_value digit)) }
+    ensures fits { IfSome result (λ n. n < 2 ^ 64) }
+    ensures none { IfNone result (IsInRange 48 57 digit
+        → 2 ^ 64 ≤ number * 10 + digit_value digit) }
+{
+    if !digit.is_ascii_digit() {
+        return None;
+    }
+    let Some(tens) = number.checked_mul(10) else {
         return None;
     };
-    match text.parse::<u64>() {
-        Ok(number) => Some(number),
-        Err(_) => None,
-    }
+    tens.checked_add(u64::from(digit - b'0'))
 }
 
 // The number of that size below 0.

@@ -1,0 +1,11 @@
+use Rattle.std.proofs.Common.{◌≡◌, ◌<◌, ◌^◌, take}
+use Rattle.std.specs.Str.Parse.{AllDigits, digits_value}
+use Rattle.unit_rules.proofs.numerals.read_digits.Given as goal
+
+-- the bytes so far are digits, and the number is theirs
+abbrev pub invariant-loop-byte : goal.invariant-loop-byte
+invariant-loop-byte l = record {
+  digits : AllDigits 10 (take l.byte-index l.text);
+  fits : l.number < 2 ^ 64;
+  value : l.number ≡ digits_value 10 (take l.byte-index l.text);
+}
