@@ -1,21 +1,10 @@
 -- The lines of a timetable, part by part.
 use Rattle.std.proofs.Common.{◌≡◌, ℕ, zero, suc, ◌+◌, ◌*◌, ◌/◌, ◌%◌, List, [], ◌∷◌, ◌++◌, length, sym, ◌∙◌, append_assoc, add-zero, refl, arith}
 use Rattle.run_io.specs.Texts.{lines_below, lines_from}
-use Rattle.run_io.proofs.TextFacts.{lines_below-from}
+use Rattle.run_io.proofs.TextFacts.{lines_below-from, lines_from-shifted}
 use Rattle.allowances.specs.declared.Row.{Row}
 use Rattle.plan_tables.specs.Plan.{PlanView}
 use Rattle.report_text.specs.Timetables.{arrival_part, departure_part, name_part, part_at, row_line, timetable_text}
-
--- the same lines under other numbers
-lines_from-shifted : (f g : ℕ → List ℕ) (a b n : ℕ) → ((k : ℕ) → f (a + k) ≡ g (b + k)) → lines_from f a n ≡ lines_from g b n
-lines_from-shifted f g a b zero h = refl
-lines_from-shifted f g a b (suc n) h =
-    let first : f a ≡ g b = rw (add-zero, add-zero) at (h 0) in
-    let later : (k : ℕ) → f ((a + 1) + k) ≡ g ((b + 1) + k) = λ k.
-    let one : (a + 1) + k ≡ a + (1 + k) = omega arith in
-    let two : (b + 1) + k ≡ b + (1 + k) = omega arith in
-    rw (one, two) (h (1 + k)) in
-    rw (first, lines_from-shifted f g (a + 1) (b + 1) n later) refl
 
 -- the parts behind the first row are those of the rows behind it
 part_at-behind : (plan : PlanView) (r : Row) (rows : List Row) (k : ℕ) → part_at plan (r ∷ rows) (3 + k) ≡ part_at plan rows (0 + k)

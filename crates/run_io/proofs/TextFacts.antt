@@ -41,3 +41,14 @@ WritesFront-lines line i n count a b c h p q =
     let all : i + n + (count - (i + n)) ≡ count = omega (arith, h) in
     WritesFront-after a b c (lines_below line i) (lines_from line i n) front.0 (lines_below line count) p q
     (rw all at front.1 ∙ ap (λ (t : List ℕ). t ++ front.0) (lines_below-from line i n))
+
+-- the same lines under other numbers
+pub lines_from-shifted : (f g : ℕ → List ℕ) (a b n : ℕ) → ((k : ℕ) → f (a + k) ≡ g (b + k)) → lines_from f a n ≡ lines_from g b n
+lines_from-shifted f g a b zero h = refl
+lines_from-shifted f g a b (suc n) h =
+    let first : f a ≡ g b = rw (add-zero, add-zero) at (h 0) in
+    let later : (k : ℕ) → f ((a + 1) + k) ≡ g ((b + 1) + k) = λ k.
+    let one : (a + 1) + k ≡ a + (1 + k) = omega arith in
+    let two : (b + 1) + k ≡ b + (1 + k) = omega arith in
+    rw (one, two) (h (1 + k)) in
+    rw (first, lines_from-shifted f g (a + 1) (b + 1) n later) refl

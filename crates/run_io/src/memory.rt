@@ -81,6 +81,13 @@ impl MemSink {
     {
         self.bytes.as_slice()
     }
+
+    /// How often it was called, up to the end of that count's type.
+    pub fn calls(&self) -> u64
+        ensures { result ≡ self.now.calls }
+    {
+        self.calls
+    }
 }
 
 impl Sink for MemSink {
@@ -166,6 +173,13 @@ impl MemSource {
             faults: 0,
         }
     }
+
+    /// How often it was called, up to the end of that count's type.
+    pub fn calls(&self) -> u64
+        ensures { result ≡ self.now.calls }
+    {
+        self.calls
+    }
 }
 
 impl Source for MemSource {
@@ -240,6 +254,13 @@ impl MemShelf {
             calls: 0,
             faults: 0,
         }
+    }
+
+    /// How often it was called, up to the end of that count's type.
+    pub fn calls(&self) -> u64
+        ensures { result ≡ self.now.calls }
+    {
+        self.calls
     }
 }
 

@@ -10,8 +10,9 @@ use Rattle.run_rules.specs.Speeds.{squared}
 use Rattle.run_rules.specs.StepRules.{fall_from}
 use Rattle.run_rules.proofs.GridFacts.{value_at-band, value_at-least, value_at-squared}
 use Rattle.run_rules.proofs.SpeedFacts.{band_width-some, squared-mono, squared-next}
-use Rattle.step_rule.specs.Motion.{IsMotion, Motion, kmh_of, most_of}
+use Rattle.step_rule.specs.Motion.{IsMotion, Motion, kmh_of, most_of, step_rule_of}
 use Rattle.step_rule.specs.Spans.{IsBrakedFrom}
+use Rattle.step_rule.proofs.MonotoneFacts.{low_from-le_fall}
 
 -- a quotient of what is less than j widths by `rise` for each of j
 product-least : (z : ℤ) (width rise j gap : ℕ) → z +ℤ pos rise ≡ pos width → j * rise ≤ gap * width → (pos j *ℤ pos width) ≤ℤ (z *ℤ pos j +ℤ pos (gap * width))
@@ -157,3 +158,10 @@ IsBrakedFrom-part motion k w gap rise part here next b e =
       braked = fall_from-most brake k gap rise w part inside (omega arith) some.0;
       too_fast = λ _. rw after at (fall_from-past brake k gap rise w (part + 1) inside (omega arith) some.1);
     }
+
+-- brakes always slow, so no train has to end a cell faster than it began it
+pub low-le : (motion : Motion) → IsMotion motion → (cell u : ℕ) → u ≤ most_of motion → (step_rule_of motion).low cell u ≤ℤ pos u
+low-le motion m cell u h =
+    let falls = fall_from-le motion m u h in
+    let low = low_from-le_fall motion.push.rows motion.brake.rows motion.moved (row motion.pulls cell) u in
+    omega (arith, ints)

@@ -3,7 +3,8 @@ use Rattle.std.proofs.lemmas.Int.{ints}
 use Rattle.limit_profile.specs.Profile.{caps}
 use Rattle.limit_profile.proofs.CapFacts.{length-caps}
 use Rattle.step_rule.specs.Motion.{step_rule_of}
-use Rattle.brake_caps.proofs.NumberFacts.{IsGreatestNumber-below, IsGreatestNumber-cap, low-le}
+use Rattle.brake_caps.proofs.NumberFacts.{IsGreatestNumber-below, IsGreatestNumber-cap}
+use Rattle.step_rule.proofs.BrakeFacts.{low-le}
 use Rattle.brake_caps.proofs.number_at.Goals as goal
 
 pub returns-then-point-cells-clause-number : goal.returns-then-point-cells-clause-number
