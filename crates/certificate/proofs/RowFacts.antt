@@ -3,23 +3,10 @@ use Rattle.std.proofs.Common.{◌≡◌, ◌≤◌, ◌+◌, ◌==◌, ℕ, zero
 use Rattle.std.proofs.lemmas.Bool.Decides.{nat_tests}
 use Rattle.std.proofs.lemmas.List.{append-nil}
 use Rattle.run_io.specs.Texts.{lines_below, lines_from}
-use Rattle.run_io.proofs.TextFacts.{lines_below-from}
+use Rattle.run_io.proofs.TextFacts.{lines_below-from, lines_from-shifted}
 use Rattle.unit_rules.specs.declared.Reach.{Reach}
 use Rattle.certificate.specs.Rows.{row_at, verdict_text}
 use Rattle.certificate.specs.Texts.{cert_text, dashed_row, full_row, rows_text, verdict_line}
-
--- the same lines under other numbers
-lines_from-shifted : (f g : ℕ → List ℕ) (a b n : ℕ) → ((k : ℕ) → f (a + k) ≡ g (b + k)) → lines_from f a n ≡ lines_from g b n
-lines_from-shifted f g a b zero h = refl
-lines_from-shifted f g a b (suc n) h =
-    let from : a + 0 ≡ a = omega arith in
-    let from' : b + 0 ≡ b = omega arith in
-    let first : f a ≡ g b = rw (from, from') at (h 0) in
-    let later : (k : ℕ) → f ((a + 1) + k) ≡ g ((b + 1) + k) = λ k.
-    let one : (a + 1) + k ≡ a + (1 + k) = omega arith in
-    let two : (b + 1) + k ≡ b + (1 + k) = omega arith in
-    rw (one, two) (h (1 + k)) in
-    rw (first, lines_from-shifted f g (a + 1) (b + 1) n later) refl
 
 same_place : (k n : ℕ) → (suc k == suc n) ≡ (k == n)
 same_place k n = grind (arith, nat_tests)

@@ -1,5 +1,5 @@
 -- What lines read as, by the rules.
-use Rattle.std.proofs.Common.{◌≡◌, ◌<◌, ◌≤◌, ◌+◌, ◌==◌, ℕ, suc, true, false, List, [], ◌∷◌, ◌++◌, Option, Some, None, Result, Err, MatchResult, length, get_or, take, refl, ◌∙◌, append_assoc, length-append, arith, inl, inr, below_more}
+use Rattle.std.proofs.Common.{◌≡◌, ◌<◌, ◌≤◌, ◌+◌, ◌==◌, ℕ, suc, true, false, List, [], ◌∷◌, ◌++◌, Option, Some, None, Result, MatchResult, length, get_or, take, refl, ◌∙◌, append_assoc, length-append, arith, inl, inr, below_more}
 use Rattle.std.proofs.lemmas.Bool.{cases_Bool}
 use Rattle.std.proofs.lemmas.Bool.Decides.{nat_tests}
 use Rattle.std.proofs.lemmas.List.{take_at}
@@ -7,17 +7,32 @@ use Rattle.std.proofs.lemmas.List.Folds.{list_any-append}
 use Rattle.std.proofs.lemmas.List.Splits.{length-slice_split}
 use Rattle.std.proofs.Math.Bool.{and-false, or-true}
 use Rattle.std.proofs.Math.Seq.{get_or-append_seam}
-use Rattle.unit_rules.specs.Memory.{Gives}
 use Rattle.unit_rules.specs.declared.Reach.{Reach}
 use Rattle.certificate.specs.declared.reading.CertText.{CertText}
 use Rattle.certificate.specs.declared.reading.CertText.TheVariants.{Bad, Memory}
 use Rattle.certificate.specs.declared.lines.Line.{Line}
 use Rattle.certificate.specs.declared.lines.Line.TheVariants.{Full, Dashed, Verdict}
 use Rattle.certificate.specs.Lines.{is_line_feed, line_of, parts_of}
-use Rattle.certificate.specs.Reading.{DraftView, added, finished, has_dash, judged, led_on, read_as_cert, read_lines, rule_of}
-use Rattle.certificate.specs.Rules.{IsRefusedFor, KeepsRules, has_dashed, has_verdict, is_dashed, is_verdict, rule_at, rule_behind}
+use Rattle.certificate.specs.Walk.{DraftView, added, finished, has_dash, judged, led_on, read_lines, rule_of}
+use Rattle.certificate.specs.Rules.{has_dashed, has_verdict, is_dashed, is_verdict, rule_at, rule_behind}
 use Rattle.certificate.specs.Texts.{CertView}
-use Rattle.certificate.proofs.ReadFacts.{read_lines-line, read_lines-rest}
+use Rattle.certificate.proofs.WalkFacts.{read_lines-line, read_lines-rest, walked}
+
+-- no part breaks a rule
+abbrev pub KeepsRules : List (List ℕ) → Type 0
+KeepsRules parts = (i : ℕ) → i < length parts → rule_at parts i ≡ 0
+
+-- the part with that index is the first that breaks a rule, and this is the least that it breaks
+pub record IsFirstBad (parts : List (List ℕ)) (i rule : ℕ) : Type 0 where
+  pub within : i < length parts
+  pub broken : rule_at parts i ≡ rule
+  pub is_rule : 1 ≤ rule
+  pub first : (k : ℕ) → k < i → rule_at parts k ≡ 0
+
+-- a fault names the first bad line, counted from 1, and the least rule that it breaks
+abbrev pub IsRefusedFor : List (List ℕ) → CertText → Type 0
+IsRefusedFor parts (Bad place rule) = (i : ℕ) × (place ≡ i + 1) × IsFirstBad parts i rule
+IsRefusedFor parts Memory = ⊥
 
 -- the rows that lines have become, none of which is the verdict's
 record Become (before : List (List ℕ)) (rows : DraftView) : Type 0 where
@@ -27,7 +42,7 @@ record Become (before : List (List ℕ)) (rows : DraftView) : Type 0 where
   dashes : has_dashed before ≡ has_dash rows
 
 -- what holds of the parts of a text, where lines behind these rows read as that
-abbrev Tells : List (List ℕ) → Result CertView CertText → Type 0
+abbrev pub Tells : List (List ℕ) → Result CertView CertText → Type 0
 Tells all result = MatchResult result (λ _. KeepsRules all) (IsRefusedFor all)
 
 -- a line behind others in the parts of a text
@@ -169,16 +184,10 @@ told (line ∷ next ∷ parts) some = λ before rows is kept. by (told (next ∷
     by : ToldOf (next ∷ parts) → ToldOf (line ∷ next ∷ parts)
     by later before rows is kept = rw (read_lines-line rows line (next ∷ parts) (omega arith)) (said later before rows is kept (line_of line) refl)
 
--- what bytes read as tells which rules they keep
-tells : (bytes : List ℕ) → Tells (parts_of bytes) (read_as_cert bytes)
-unfolding read_as_cert
-tells bytes =
+-- going through the lines of a text tells which rules they keep
+pub walked-tells : (bytes : List ℕ) → Tells (parts_of bytes) (walked bytes)
+unfolding walked
+walked-tells bytes =
     told (parts_of bytes) (omega (arith, length-slice_split is_line_feed bytes)) [] (record { c = []; e = [] })
     (record { count = refl; shorter = omega arith; no_verdict = refl; dashes = refl })
     (λ k none. absurd (omega arith))
-
--- the same of what a call gives, where want of memory is free
-pub Gives-tells : (bytes : List ℕ) (result : Result CertView CertText) → Gives (Err Memory) (read_as_cert bytes) result
-    → MatchResult result (λ _. KeepsRules (parts_of bytes)) (IsRefusedFor (parts_of bytes))
-Gives-tells bytes result (inl wanting) = rw wanting tt
-Gives-tells bytes result (inr same) = rw same (tells bytes)

@@ -3,3 +3,4 @@ pub mod Reading
 pub mod Rows
 pub mod Rules
 pub mod Texts
+pub mod Walk

@@ -1,67 +1,47 @@
--- What bytes read as, line by line: a certificate, or the number of the first bad line and the least rule that it breaks. Rules says
--- the same of all lines at once.
-use Rattle.std.specs.Prelude.{ℕ, ◌+◌, Bool, nat_lt, if◌then◌else◌, List, [], ◌∷◌, ◌++◌, length, Option, Some, None, Result, Ok, Err}
+-- What bytes read as: the certificate that their lines make, or the first bad line and the least rule that it breaks.
+use Rattle.std.specs.Prelude.{ℕ, ◌+◌, nat_lt, List, [], ◌∷◌, length, Option, Some, None, Result, Ok, Err}
+use Rattle.std.specs.List.{filter_map, find, range_with_len}
 use Rattle.unit_rules.specs.declared.Reach.{Reach}
+use Rattle.unit_rules.specs.declared.Reach.TheVariants.{Whole}
 use Rattle.certificate.specs.declared.reading.CertText.{CertText}
 use Rattle.certificate.specs.declared.reading.CertText.TheVariants.{Bad}
 use Rattle.certificate.specs.declared.lines.Line.{Line}
 use Rattle.certificate.specs.declared.lines.Line.TheVariants.{Full, Dashed, Verdict}
 use Rattle.certificate.specs.Lines.{line_of, parts_of}
+use Rattle.certificate.specs.Rules.{rule_at}
 use Rattle.certificate.specs.Texts.{CertView}
 
--- the numbers of the rows of a text: the first of each row, and the second of each row that has one
-pub record DraftView : Type 0 where
-  pub c : List ℕ
-  pub e : List ℕ
+-- the first number of a row, and the second, where it has one
+abbrev pub first_of : Line → Option ℕ
+first_of (Full c e) = Some c
+first_of (Dashed c) = Some c
+first_of (Verdict v) = None
 
--- a row of these has a dash: the second numbers are fewer
-abbrev pub has_dash : DraftView → Bool
-has_dash rows = nat_lt (length rows.e) (length rows.c)
+abbrev pub second_of : Line → Option ℕ
+second_of (Full c e) = Some e
+second_of (Dashed c) = None
+second_of (Verdict v) = None
 
--- the line behind these rows breaks a rule; lines are counted from 1
-abbrev pub bad_behind : {A : Type 0} → DraftView → ℕ → Result A CertText
-bad_behind rows rule = Err (Bad (length rows.c + 1) rule)
+-- the verdict among these lines; where no rule is broken they have one
+abbrev pub verdict_of : List Line → Reach
+verdict_of [] = Whole
+verdict_of (Verdict v ∷ lines) = v
+verdict_of (row ∷ lines) = verdict_of lines
 
--- a line behind these rows, or the rule of 2 and 3 that it breaks
-abbrev pub judged : DraftView → Option Line → Result Line ℕ
-judged rows None = Err 2
-judged rows (Some (Full c e)) = if has_dash rows then Err 3 else Ok (Full c e)
-judged rows (Some (Dashed c)) = Ok (Dashed c)
-judged rows (Some (Verdict v)) = Ok (Verdict v)
+-- the numbers of all rows, and the verdict
+abbrev pub cert_of : List Line → CertView
+cert_of lines = record { c = filter_map first_of lines; e = filter_map second_of lines; verdict = verdict_of lines }
 
--- the rows with the one that a line is, or the verdict that it is
-abbrev pub added : DraftView → Result Line ℕ → Result (DraftView × Option Reach) CertText
-added rows (Ok (Full c e)) = Ok (record { c = rows.c ++ c ∷ []; e = rows.e ++ e ∷ [] }, None)
-added rows (Ok (Dashed c)) = Ok (record { c = rows.c ++ c ∷ []; e = rows.e }, None)
-added rows (Ok (Verdict v)) = Ok (rows, Some v)
-added rows (Err rule) = bad_behind rows rule
+-- the index of the first part that breaks a rule
+abbrev pub first_bad : List (List ℕ) → Option ℕ
+first_bad parts = find (λ i. nat_lt 0 (rule_at parts i)) (range_with_len 0 (length parts))
 
--- the rule that the bytes behind the last LF break: 4, where it is none of 2 and 3
-abbrev pub rule_of : Result Line ℕ → ℕ
-rule_of (Ok line) = 4
-rule_of (Err rule) = rule
-
-abbrev pub rule_of_rest : DraftView → List ℕ → ℕ
-rule_of_rest rows [] = 4
-rule_of_rest rows (b ∷ rest) = rule_of (judged rows (line_of (b ∷ rest)))
-
--- the certificate of these rows and a verdict, where nothing stands behind its line; or rule 1, of the line that does
-abbrev pub finished : DraftView → Reach → List (List ℕ) → Result CertView CertText
-finished rows verdict ([] ∷ []) = Ok (record { c = rows.c; e = rows.e; verdict = verdict })
-finished rows verdict parts = Err (Bad (length rows.c + 2) 1)
-
--- what comes of a line that an LF ends: the next are read behind the row that it is, or it is the verdict line
-abbrev pub led_on : (DraftView → Result CertView CertText) → List (List ℕ) → Result (DraftView × Option Reach) CertText → Result CertView CertText
-led_on next parts (Ok (rows, None)) = next rows
-led_on next parts (Ok (rows, Some verdict)) = finished rows verdict parts
-led_on next parts (Err bad) = Err bad
-
--- what lines read as behind these rows; an LF ends each but the last, which is what stands behind the last LF
-unfoldable pub read_lines : DraftView → List (List ℕ) → Result CertView CertText
-read_lines rows [] = bad_behind rows 4
-read_lines rows (rest ∷ []) = bad_behind rows (rule_of_rest rows rest)
-read_lines rows (line ∷ next ∷ parts) = led_on (λ more. read_lines more (next ∷ parts)) (next ∷ parts) (added rows (judged rows (line_of line)))
+-- what parts read as: the certificate of their lines, where none breaks a rule; or the number of the first that does, counted from 1,
+-- and the least rule that it breaks
+abbrev pub read_parts : List (List ℕ) → Option ℕ → Result CertView CertText
+read_parts parts None = Ok (cert_of (filter_map line_of parts))
+read_parts parts (Some i) = Err (Bad (i + 1) (rule_at parts i))
 
 -- what bytes read as
 unfoldable pub read_as_cert : List ℕ → Result CertView CertText
-read_as_cert bytes = read_lines (record { c = []; e = [] }) (parts_of bytes)
+read_as_cert bytes = read_parts (parts_of bytes) (first_bad (parts_of bytes))

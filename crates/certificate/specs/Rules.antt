@@ -2,10 +2,8 @@
 -- none of the four forms, and rule 3 where it has two numbers and stands after a line with a dash. Where the text ends before a
 -- verdict's line and its LF, what stands behind the last LF breaks rule 4, if it breaks no other; it breaks none of the others where it
 -- is empty.
-use Rattle.std.specs.Prelude.{ℕ, ◌+◌, ◌<◌, ◌≤◌, ◌≡◌, Bool, true, false, ◌==◌, ◌&&◌, if◌then◌else◌, List, [], length, take, slice_index_or, Option, Some, None}
+use Rattle.std.specs.Prelude.{ℕ, ◌+◌, Bool, true, false, ◌==◌, ◌&&◌, if◌then◌else◌, List, [], length, take, slice_index_or, Option, Some, None}
 use Rattle.std.specs.List.{list_any}
-use Rattle.certificate.specs.declared.reading.CertText.{CertText}
-use Rattle.certificate.specs.declared.reading.CertText.TheVariants.{Bad, Memory}
 use Rattle.certificate.specs.declared.lines.Line.{Line}
 use Rattle.certificate.specs.declared.lines.Line.TheVariants.{Full, Dashed, Verdict}
 use Rattle.certificate.specs.Lines.{line_of}
@@ -48,19 +46,3 @@ rule_behind before line last =
 -- the same of the part with that index
 abbrev pub rule_at : List (List ℕ) → ℕ → ℕ
 rule_at parts i = rule_behind (take i parts) (slice_index_or parts i []) (i + 1 == length parts)
-
--- no part breaks a rule
-abbrev pub KeepsRules : List (List ℕ) → Type 0
-KeepsRules parts = (i : ℕ) → i < length parts → rule_at parts i ≡ 0
-
--- the part with that index is the first that breaks a rule, and this is the least that it breaks
-pub record IsFirstBad (parts : List (List ℕ)) (i rule : ℕ) : Type 0 where
-  pub within : i < length parts
-  pub broken : rule_at parts i ≡ rule
-  pub is_rule : 1 ≤ rule
-  pub first : (k : ℕ) → k < i → rule_at parts k ≡ 0
-
--- a fault names the first bad line, counted from 1, and the least rule that it breaks
-abbrev pub IsRefusedFor : List (List ℕ) → CertText → Type 0
-IsRefusedFor parts (Bad place rule) = (i : ℕ) × (place ≡ i + 1) × IsFirstBad parts i rule
-IsRefusedFor parts Memory = Unit {0}

@@ -5,6 +5,7 @@
 
 mod lines;
 mod reading;
+mod rows;
 #[cfg(test)]
 mod tests;
 mod writing;

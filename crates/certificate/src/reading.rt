@@ -1,14 +1,15 @@
 //! Certificates as they are read.
 
-ghost use Rattle.std.specs.Prelude.{◌≡◌, ◌+◌, ◌<◌, ◌^◌, ◌∷◌, ◌++◌, [], Err, IfOk, MatchResult, Ok, length};
+ghost use Rattle.std.specs.Prelude.{◌≡◌, ◌+◌, ◌<◌, ◌≤◌, ◌^◌, ◌∷◌, ◌++◌, [], Err, IfOk, MatchResult, Ok, length};
 ghost use Rattle.std.specs.Result.{result_map_both};
 ghost use Rattle.unit_rules.specs.Memory.{Gives};
 ghost use Rattle.certificate.specs.Lines.{line_of, parts_of};
-ghost use Rattle.certificate.specs.Reading.{DraftView, added, finished, has_dash, judged, read_as_cert, rule_of_rest};
-ghost use Rattle.certificate.specs.Rules.{IsRefusedFor, KeepsRules};
+ghost use Rattle.certificate.specs.Reading.{read_as_cert};
 ghost use Rattle.certificate.specs.Texts.{CertView, IsCert, text_of};
+ghost use Rattle.certificate.specs.Walk.{DraftView, added, finished, has_dash, judged, read_lines, rule_of_rest, with_row};
 
 use crate::lines::{Line, line_of, part_before};
+use crate::rows::row_ahead;
 use std::alloc::Global;
 use std::marker::Model;
 use unit_rules::Reach;
@@ -47,8 +48,6 @@ pub enum CertText {
 /// `stalled K`, each with a line feed.
 pub fn read_cert(alloc: Global, bytes: &[u8]) -> Result<Cert, CertText>
     ensures certificate { Gives (Err CertText.Memory) (read_as_cert bytes.now) result }
-    ensures rules { MatchResult result (λ _. KeepsRules (parts_of bytes.now))
-        (IsRefusedFor (parts_of bytes.now)) }
     ensures text { IfOk result (λ cert. bytes.now ≡ text_of cert) }
     ensures values { IfOk result IsCert }
     ensures only { (x : CertView) → IsCert x → bytes.now ≡ text_of x
@@ -68,6 +67,7 @@ fn read_lines(alloc: Global, bytes: &[u8]) -> Result<Cert, CertText>
         if let Some(verdict) = rows.add(line.part)? {
             return rows.finish(verdict, rest);
         }
+        rest = rows.add_rows(rest)?;
     }
     Err(rows.bad(rows.rule_of_rest(rest)))
 }
@@ -80,7 +80,7 @@ struct Draft {
 }
 
 impl Model for Draft {
-    ghost use Rattle.certificate.specs.Reading.{DraftView};
+    ghost use Rattle.certificate.specs.Walk.{DraftView};
 
     ghost Value = { DraftView };
 
@@ -165,8 +165,7 @@ impl Draft {
     {
         match line {
             Line::Full { c, e } => {
-                push(&mut self.c, c)?;
-                push(&mut self.e, e)?;
+                self.add_row(c, e)?;
                 Ok(None)
             }
             Line::Dashed { c } => {
@@ -175,6 +174,37 @@ impl Draft {
             }
             Line::Verdict(verdict) => Ok(Some(verdict)),
         }
+    }
+
+    // Adds the rows of two numbers that a text begins with, where no row has a dash, and gives what is
+    // behind them. A row with the bytes of the one before is that row again.
+    fn add_rows<'a>(&mut self, text: &'a [u8]) -> Result<&'a [u8], CertText>
+        ensures reads { MatchResult result (λ rest. read_lines self.new (parts_of rest.now)
+            ≡ read_lines self.old (parts_of text.now)) (λ fault. fault ≡ CertText.Memory) }
+        ensures shorter { IfOk result (λ rest. length rest.now ≤ length text.now) }
+    {
+        let mut rest = text;
+        if self.has_dash() {
+            return Ok(rest);
+        }
+        while let Some(row) = row_ahead(rest) {
+            self.add_row(row.c, row.e)?;
+            rest = row.rest;
+            while let Some(more) = rest.strip_prefix(row.line) {
+                self.add_row(row.c, row.e)?;
+                rest = more;
+            }
+        }
+        Ok(rest)
+    }
+
+    // Adds a row of two numbers.
+    fn add_row(&mut self, c: u32, e: u32) -> Result<(), CertText>
+        ensures { Gives (Err CertText.Memory) (Ok (with_row self.old c e))
+            (result_map_both (λ _. self.new) (λ e. e) result) }
+    {
+        push(&mut self.c, c)?;
+        push(&mut self.e, e)
     }
 
     // The certificate of these rows and a verdict, where nothing stands behind its line.

@@ -49,6 +49,8 @@ fn certificates(rt: HostRuntime) -> Result<(), Fail> {
     assert!(rt; reads(alloc, b"stalled 4294967295\n", &[], &[], stalled(u32::MAX)));
     let two = b"0 0\n25920 20000\n0 0\nwhole\n";
     assert!(rt; reads(alloc, two, &[0, 25920, 0], &[0, 20000, 0], Reach::Whole));
+    let alike = b"7 5\n7 5\n7 50\nwhole\n";
+    assert!(rt; reads(alloc, alike, &[7, 7, 7], &[5, 5, 50], Reach::Whole));
     let most = b"4294967295 4294967295\n4294967295 -\nwhole\n";
     assert!(rt;
         reads(

@@ -18,10 +18,21 @@ pub fn write_cert<K: Sink>(c: &[u32], e: &[u32], verdict: Reach, out: &mut K) ->
     ensures failed { OnErr result (WritesFront (K.told out.old) (K.told out.new)
         (cert_text c.now e.now verdict)) }
     ensures cause { HasCause (K.told out.old) (K.told out.new) result }
-    ensures read { HasPoint verdict → read_as_cert (cert_text c.now e.now verdict)
+    ensures read { read_as_cert (cert_text c.now e.now verdict)
         ≡ Ok (record { c = c.now; e = e.now; verdict = verdict }) }
 {
+    see_point(verdict);
     write_rows(out, &Lines { c, e, verdict }, c.len() + 1, &mut ())
+}
+
+// Every verdict has a text: its point is a number of 32 bits.
+fn see_point(verdict: Reach)
+    ensures { HasPoint verdict }
+{
+    match verdict {
+        Reach::Whole => {}
+        Reach::Stalled { k: _k } => {}
+    }
 }
 
 // The lines of a certificate.

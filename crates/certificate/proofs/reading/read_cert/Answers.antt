@@ -1,9 +1,5 @@
 use Rattle.certificate.proofs.ReadFacts.{Gives-text, IfOk-text, IfOk-values}
-use Rattle.certificate.proofs.RuleFacts.{Gives-tells}
 use Rattle.certificate.proofs.reading.read_cert.Goals as goal
-
-pub returns-clause-rules : goal.returns-clause-rules
-returns-clause-rules c = Gives-tells c.args.bytes.now c.read_lines.result c.read_lines.ensures
 
 pub returns-clause-text : goal.returns-clause-text
 returns-clause-text c = IfOk-text c.args.bytes.now c.read_lines.result c.read_lines.ensures

@@ -1,5 +1,6 @@
 use Rattle.std.proofs.Common.{◌≡◌, Err, sym, ◌∙◌, inr, rules}
-use Rattle.certificate.proofs.ReadFacts.{read_as_cert-begins, read_lines-ends, read_lines-on, read_lines-rest, read_lines-stops}
+use Rattle.certificate.proofs.ReadFacts.{read_as_cert-begins}
+use Rattle.certificate.proofs.WalkFacts.{read_lines-ends, read_lines-on, read_lines-rest, read_lines-stops}
 use Rattle.certificate.proofs.reading.read_lines.Goals as goal
 
 pub loop-line-init : goal.loop-line-init
@@ -24,7 +25,7 @@ loop-line-preserved c =
     let line = c.in-Some.line in
     let given = rw c.in_default-2.is at c.in_ok-verdict.ensures in
     let on = read_lines-on c.loop-line.rows c.add.new.self line.part.now line.rest.now given in
-    sym on ∙ rw c.in-Some.ensures.parts at c.loop-line.invariant
+    c.in_ok-rest.ensures.reads ∙ sym on ∙ rw c.in-Some.ensures.parts at c.loop-line.invariant
 
 pub returns : goal.returns
 returns c =

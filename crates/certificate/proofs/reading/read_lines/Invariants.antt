@@ -1,6 +1,7 @@
 use Rattle.std.proofs.Common.{◌≡◌, length}
 use Rattle.certificate.specs.Lines.{parts_of}
-use Rattle.certificate.specs.Reading.{read_as_cert, read_lines}
+use Rattle.certificate.specs.Reading.{read_as_cert}
+use Rattle.certificate.specs.Walk.{read_lines}
 use Rattle.certificate.proofs.reading.read_lines.Given as goal
 
 -- what the lines that are left read as, behind the rows so far, is what all lines read as

@@ -11,7 +11,7 @@ pub returns-clause-failed : goal.returns-clause-failed
 returns-clause-failed g c = rw (rows_below c.args.c.now c.args.e.now c.args.verdict c.requires) at c.write_rows.ensures.failed
 
 pub returns-clause-read : goal.returns-clause-read
-returns-clause-read g c point =
+returns-clause-read g c =
     let c_fits = c.type_inv.c in
     let e_fits = c.type_inv.e in
     read_as_cert-text (record { c = c.args.c.now; e = c.args.e.now; verdict = c.args.verdict })
@@ -19,5 +19,5 @@ returns-clause-read g c point =
       shorter = c.requires;
       braking = λ k d l. rw (get_or_default c.args.c.now k d 0 l) (omega (arith, c_fits k));
       speeds = λ k d l. rw (get_or_default c.args.e.now k d 0 l) (omega (arith, e_fits k));
-      point = point;
+      point = c.see_point.ensures;
     })

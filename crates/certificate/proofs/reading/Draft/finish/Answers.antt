@@ -1,6 +1,6 @@
 use Rattle.std.proofs.Common.{◌<◌, length, arith, sym, ◌∙◌}
 use Rattle.std.proofs.lemmas.Bool.{eqb-false}
-use Rattle.certificate.proofs.ReadFacts.{finished-behind}
+use Rattle.certificate.proofs.WalkFacts.{finished-behind}
 use Rattle.certificate.proofs.reading.Draft.finish.Goals as goal
 
 pub returns : goal.returns
