@@ -13,13 +13,6 @@ use Rattle.cert_check.proofs.RuleFacts.{IsCapped, below_braking, below_cap}
 use Rattle.step_rule.proofs.BrakeFacts.{fall_from-le}
 use Rattle.step_rule.proofs.MonotoneFacts.{low_from-le_fall}
 
--- brakes always slow, so no train has to end a cell faster than it began it
-pub low-le : (motion : Motion) → IsMotion motion → (cell u : ℕ) → u ≤ most_of motion → (step_rule_of motion).low cell u ≤ℤ pos u
-low-le motion m cell u h =
-    let falls = fall_from-le motion m u h in
-    let low = low_from-le_fall motion.push.rows motion.brake.rows motion.moved (row motion.pulls cell) u in
-    omega (arith, ints)
-
 -- the caps of limits with the same top speed are in the range of the rule
 pub IsCapped-caps : (motion : Motion) (limits : Profile) → IsMonotone (step_rule_of motion) (cells_of motion) (most_of motion) → limits.length ≡ cells_of motion → limits.top ≡ kmh_of motion
     → IsCapped (step_rule_of motion) (caps limits) (most_of motion)

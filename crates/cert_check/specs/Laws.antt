@@ -23,3 +23,9 @@ CertifiedOnce = (rule : StepRule) (x c e d f : List ℕ) (verdict other : Reach)
     → IsMonotone rule (length x - 1) top → ((i : ℕ) → i < length x → slice_index x i ≤ top) → 0 < length x
     → IsCertified rule x c e verdict → IsCertified rule x d f other
     → (c ≡ d) × (e ≡ f) × (verdict ≡ other)
+
+-- and there is one, so each case has its certificate
+abbrev pub CertifiedExist : Type 0
+CertifiedExist = (rule : StepRule) (x : List ℕ) (top : ℕ)
+    → IsMonotone rule (length x - 1) top → ((i : ℕ) → i < length x → slice_index x i ≤ top) → 0 < length x
+    → (c : List ℕ) × ((e : List ℕ) × ((verdict : Reach) × IsCertified rule x c e verdict))

@@ -3,12 +3,12 @@
 //! caps with the walks that make such lists, and nothing else.
 #![tactic(auto)]
 
-ghost use Rattle.std.specs.Prelude.{◌≡◌, ℕ, ◌+◌, ◌-◌, ◌*◌, ◌<◌, ◌≤◌, ◌↔◌, length, slice_index, IfErr, IfNone, IfOk, IfSome, IsTrue};
+ghost use Rattle.std.specs.Prelude.{◌≡◌, ℕ, ◌+◌, ◌-◌, ◌*◌, ◌<◌, ◌≤◌, ◌↔◌, length, slice_index, IfNone, IfOk, IfSome, IsOk, IsTrue};
 ghost use Rattle.limit_profile.specs.Levels.{IsLevel};
 ghost use Rattle.limit_profile.specs.Profile.{Profile, caps};
 ghost use Rattle.step_rule.specs.Motion.{cells_of, kmh_of, most_of, step_rule_of};
 ghost use Rattle.cert_check.specs.Faults.{IsFirstBroken, IsLeastBroken, KeepsAll};
-ghost use Rattle.cert_check.specs.Laws.{CertifiedAreRight, CertifiedOnce, IsCertificateOf};
+ghost use Rattle.cert_check.specs.Laws.{CertifiedAreRight, CertifiedExist, CertifiedOnce, IsCertificateOf};
 ghost use Rattle.cert_check.specs.Rules.{BreaksPointRule, BreaksSpeedRule, CanBrake, EndsElsewhere, IsCertified, ShowsStall, StandsTwice};
 
 use certificate::Cert;
@@ -45,19 +45,13 @@ pub fn check<L: Ledger>(
     requires same_length { limits.now.length ≡ cells_of rule.now }
     requires same_top { limits.now.top ≡ kmh_of rule.now }
     ensures verdict { IfOk result (λ reach. reach ≡ cert.now.verdict) }
-    ensures kept { IfOk result (λ reach. IsCertified (step_rule_of rule.now)
-        (caps limits.now) cert.now.c cert.now.e reach) }
-    ensures broken { IfErr result (λ fault. IsFirstBroken (step_rule_of rule.now)
-        (caps limits.now) cert.now.c cert.now.e cert.now.verdict fault.point fault.rule) }
-    ensures accepts { IsCertified (step_rule_of rule.now)
-        (caps limits.now) cert.now.c cert.now.e cert.now.verdict → result ≡ Ok cert.now.verdict }
-    ensures refuses { (fault : CertFault) → IsFirstBroken (step_rule_of rule.now)
-        (caps limits.now) cert.now.c cert.now.e cert.now.verdict fault.point fault.rule
-        → result ≡ Err fault }
-    ensures right { IfOk result (λ reach. IsCertificateOf (step_rule_of rule.now)
-        (caps limits.now) cert.now.c cert.now.e reach) }
-    ensures complete { IsCertificateOf (step_rule_of rule.now)
-        (caps limits.now) cert.now.c cert.now.e cert.now.verdict → result ≡ Ok cert.now.verdict }
+    ensures valid { IsOk result ↔ IsCertified (step_rule_of rule.now)
+        (caps limits.now) cert.now.c cert.now.e cert.now.verdict }
+    ensures right { IsOk result ↔ IsCertificateOf (step_rule_of rule.now)
+        (caps limits.now) cert.now.c cert.now.e cert.now.verdict }
+    ensures broken { (fault : CertFault) → (result ≡ Err fault)
+        ↔ IsFirstBroken (step_rule_of rule.now) (caps limits.now)
+        cert.now.c cert.now.e cert.now.verdict fault.point fault.rule }
     ensures cost { steps.new ≤ steps.old + 4 * (limits.now.length + 1) }
 {
     let _cells = rule.cells();
@@ -68,10 +62,11 @@ pub fn check<L: Ledger>(
 }
 
 /// The laws of certificates, whatever the step rule: those that break no rule are those with the braking
-/// list, the envelope and its reach, and under the same caps there is only one.
+/// list, the envelope and its reach, and under the same caps there is exactly one.
 pub fn laws_of_certificates()
     ensures right { CertifiedAreRight }
     ensures once { CertifiedOnce }
+    ensures exist { CertifiedExist }
 {}
 
 // The first rule that a braking list `c`, an envelope `e` and a verdict break.

@@ -1,6 +1,6 @@
 use Rattle.std.proofs.Common.{arith, refl}
 use Rattle.std.proofs.lemmas.Int.{ints}
-use Rattle.cert_check.proofs.StepFacts.{low-le}
+use Rattle.step_rule.proofs.BrakeFacts.{low-le}
 use Rattle.cert_check.proofs.can_brake.Goals as goal
 
 pub returns-then-u-next-clause-brakes : goal.returns-then-u-next-clause-brakes

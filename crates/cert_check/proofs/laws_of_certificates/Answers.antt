@@ -1,3 +1,4 @@
+use Rattle.cert_check.proofs.ExistFacts.{certified_exist}
 use Rattle.cert_check.proofs.OnceFacts.{certified_are_right, certified_once}
 use Rattle.cert_check.proofs.laws_of_certificates.Goals as goal
 
@@ -6,3 +7,6 @@ returns-clause-right c = certified_are_right
 
 pub returns-clause-once : goal.returns-clause-once
 returns-clause-once c = certified_once
+
+pub returns-clause-exist : goal.returns-clause-exist
+returns-clause-exist c = certified_exist
