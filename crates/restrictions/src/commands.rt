@@ -3,6 +3,7 @@
 ghost use Rattle.std.specs.Prelude.{◌≡◌, ◌≤◌, ℕ, List, IfOk, IfSome, length};
 ghost use Rattle.unit_rules.specs.Zone.{LiesOn};
 ghost use Rattle.restrictions.specs.Commands.{IsOn, alone, command_of, most_bytes, put_of, take_of, time_of, zone_of_words};
+ghost use Rattle.restrictions.specs.Edits.{code_of_line};
 ghost use Rattle.restrictions.specs.Words.{after_spaces, after_word, words_of};
 
 use crate::ids::Id;
@@ -52,6 +53,19 @@ pub enum CommandFault {
     NoCommand,
     /// An ID, a numeral or a range in it is wrong.
     Spelling,
+}
+
+impl CommandFault {
+    /// The code of a line that is no command.
+    pub fn code(&self) -> u32
+        ensures { result ≡ code_of_line self.now }
+    {
+        match self {
+            CommandFault::Long => 1,
+            CommandFault::NoCommand => 2,
+            CommandFault::Spelling => 3,
+        }
+    }
 }
 
 /// The command that a line is, without the bytes that end the line, where zones have to lie on a

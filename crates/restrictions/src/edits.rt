@@ -69,8 +69,8 @@ fn first_line<'a>(text: &'a [u8]) -> FirstLine<'a>
     }
 }
 
-// A line without one CR at its end.
-fn without_cr(line: &[u8]) -> &[u8]
+/// A line without one CR at its end.
+pub fn without_cr(line: &[u8]) -> &[u8]
     ensures { result.now ≡ strip_carriage_return line.now }
 {
     if line.is_empty() || line[line.len() - 1] != b'\r' {
@@ -91,7 +91,7 @@ fn edit(force: &mut InForce, place: u64, line: &[u8], length: u32) -> Result<(),
         Ok(command) => carry_out(force, place, command),
         Err(fault) => Err(EditsFault::Bad {
             place,
-            code: code_of_line(fault),
+            code: fault.code(),
         }),
     }
 }
@@ -116,18 +116,8 @@ fn carry_out(force: &mut InForce, place: u64, command: Command) -> Result<(), Ed
         },
         _ => Err(EditsFault::Bad {
             place,
-            code: code_of_line(CommandFault::NoCommand),
+            code: CommandFault::NoCommand.code(),
         }),
-    }
-}
-
-fn code_of_line(fault: CommandFault) -> u32
-    ensures { result ≡ code_of_line fault }
-{
-    match fault {
-        CommandFault::Long => 1,
-        CommandFault::NoCommand => 2,
-        CommandFault::Spelling => 3,
     }
 }
 
@@ -136,11 +126,11 @@ fn fault_of_edit(place: u64, fault: EditFault) -> EditsFault
     ensures code { Gives EditsFault.Memory (EditsFault.Bad place (code_of_edit fault)) result }
     ensures memory { fault ≡ EditFault.Memory → result ≡ EditsFault.Memory }
 {
-    let code = match fault {
-        EditFault::Present => 4,
-        EditFault::Absent => 5,
-        EditFault::Full => 6,
-        EditFault::Memory => return EditsFault::Memory,
-    };
-    EditsFault::Bad { place, code }
+    if fault == EditFault::Memory {
+        return EditsFault::Memory;
+    }
+    EditsFault::Bad {
+        place,
+        code: fault.code(),
+    }
 }

@@ -1,6 +1,7 @@
 //! The restrictions in force.
 
 ghost use Rattle.std.specs.Prelude.{◌≡◌, ◌⊎◌, ◌+◌, ◌-◌, ◌≤◌, ◌<◌, [], IfErr, IfOk, IsOk, OnErr, OnOk, Ok, Some, None, length, max, slice_get};
+ghost use Rattle.restrictions.specs.Edits.{code_of_edit};
 ghost use Rattle.restrictions.specs.Force.{IsForce, ForceView, put_in, without, zone_of, zones_of};
 
 use crate::ids::Id;
@@ -9,8 +10,8 @@ use std::alloc::Global;
 use std::marker::Model;
 use unit_rules::{Memory, Zone};
 
-// The most restrictions that may be in force.
-const MOST_IN_FORCE: usize = 10_000;
+/// The most restrictions that may be in force.
+pub const MOST_IN_FORCE: usize = 10_000;
 
 /// Why an edit is refused.
 #[derive(Clone, Copy, Debug, PartialEq, Eq)]
@@ -23,6 +24,20 @@ pub enum EditFault {
     Full,
     /// Memory was wanted and could not be had.
     Memory,
+}
+
+impl EditFault {
+    /// The code of an edit that is refused; want of memory has none, and gives 0.
+    pub fn code(&self) -> u32
+        ensures { result ≡ code_of_edit self.now }
+    {
+        match self {
+            EditFault::Present => 4,
+            EditFault::Absent => 5,
+            EditFault::Full => 6,
+            EditFault::Memory => 0,
+        }
+    }
 }
 
 /// The restrictions in force, each with its ID, in the order in which they were put.
