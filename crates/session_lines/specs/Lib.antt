@@ -1,0 +1,4 @@
+pub mod Lines
+pub mod Dialogues
+pub mod Sessions
+pub mod Feeding
