@@ -41,9 +41,9 @@ ReachesAs-known rule x e (Stalled k) points long (stall, envelope) =
     (stall, rw twice envelope)
 
 -- so what is kept is as from scratch
-pub IsFromScratch-fastest : (f : Fields) → PlanLiesOn f.line.length f.plan → All (LiesOn f.line.length) (zones_of f.force.pairs) → f.motion ≡ train_motion f.line (stock_in f) → AreLimits f
+pub IsFromScratch-fastest : (f : Fields) → PlanLiesOn f.line.length f.plan → All (LiesOn f.line.length) (zones_of f.force.pairs) → IsForce f.force → f.motion ≡ train_motion f.line (stock_in f) → AreLimits f
     → cells_of f.motion ≡ f.line.length → IsFastest (step_rule_of f.motion) (cells_of f.motion) (most_of f.motion) (caps f.limits) f.run → IsFromScratch (view_of f)
-IsFromScratch-fastest f lies zones motion limits cells fastest =
+IsFromScratch-fastest f lies zones force motion limits cells fastest =
     let same = caps-kept f limits in
     let known = known_in f.line.length f.run in
     let holds = fastest.envelope in
@@ -54,6 +54,8 @@ IsFromScratch-fastest f lies zones motion limits cells fastest =
     record {
       lies = lies;
       zones_lie = zones;
+      distinct = force.distinct;
+      few = force.few;
       brakes = rw (same, motion) at fastest.brakes;
       reaches = ReachesAs-known _ _ speeds f.run.reach (f.line.length + 1) long (rw (same, motion) at fastest.reaches);
       known = counted;
@@ -78,7 +80,7 @@ IsKept-made f stock mass train motion limits spare is_stock is_force lies zones 
       force_spare = omega (arith, spare);
       limits_spare = omega (arith, spare);
       fastest = fastest;
-      scratch = IsFromScratch-fastest f lies zones moves are cells fastest;
+      scratch = IsFromScratch-fastest f lies zones is_force moves are cells fastest;
     }
 
 -- where a zone is among the limits of one envelope more than of another, their caps agree but where it binds
@@ -134,7 +136,7 @@ IsKept-changed f limits force spare run kept same zones is_force lie room limits
       force_spare = room;
       limits_spare = limits_room;
       fastest = fastest;
-      scratch = IsFromScratch-fastest g kept.scratch.lies lie moves are kept.cells fastest;
+      scratch = IsFromScratch-fastest g kept.scratch.lies lie is_force moves are kept.cells fastest;
     }
 
 -- so they do where there is room for more

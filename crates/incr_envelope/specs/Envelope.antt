@@ -1,5 +1,5 @@
 -- What contracts see of an envelope: a train on a line by a plan, the restrictions in force, and what is kept of its fastest run.
-use Rattle.std.specs.Prelude.{◌≡◌, ℕ, ◌+◌, nat_lt, if◌then◌else◌, List, length, All, Option, Some, None}
+use Rattle.std.specs.Prelude.{◌≡◌, ℕ, ◌+◌, ◌≤◌, nat_lt, if◌then◌else◌, List, length, All, Option, Some, None}
 use Rattle.unit_rules.specs.Zone.{LiesOn}
 use Rattle.unit_rules.specs.declared.Reach.{Reach}
 use Rattle.unit_rules.specs.declared.Zone.{Zone}
@@ -13,7 +13,7 @@ use Rattle.time_brackets.specs.Sums.{KeptSums, StandsFor}
 use Rattle.time_brackets.specs.declared.Bracket.{Bracket}
 use Rattle.allowances.specs.Arrivals.{arrival}
 use Rattle.case_rules.specs.Case.{plan_caps, train_rule}
-use Rattle.restrictions.specs.Force.{zones_of}
+use Rattle.restrictions.specs.Force.{AreDistinct, most_in_force, zones_of}
 use Rattle.incr_envelope.specs.Touched.{Lists, touched}
 
 -- a case and the restrictions in force, each with its ID; how many more can be put with no more memory; the braking list, the
@@ -40,10 +40,13 @@ rule_in v = train_rule v.line v.stock
 abbrev pub caps_in : EnvelopeView → List ℕ
 caps_in v = caps_under v.line v.stock v.plan v.force
 
--- what is kept is what the definitions give for the case and the restrictions in force
+-- what is kept is what the definitions give for the case and the restrictions in force, whose IDs are distinct, and which are no
+-- more than may be
 pub record IsFromScratch (v : EnvelopeView) : Type 0 where
   pub lies : PlanLiesOn v.line.length v.plan
   pub zones_lie : All (LiesOn v.line.length) (zones_of v.force)
+  pub distinct : AreDistinct v.force
+  pub few : length v.force ≤ most_in_force
   pub brakes : IsBrakingList (rule_in v) (caps_in v) v.brakes
   pub reaches : ReachesAs (rule_in v) (caps_in v) v.speeds v.reach
   pub known : length v.speeds ≡ count_of (v.line.length + 1) v.reach

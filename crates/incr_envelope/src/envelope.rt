@@ -4,6 +4,9 @@ ghost use Rattle.std.specs.Prelude.{◌≡◌, ◌⊎◌, ◌+◌, ◌-◌, ◌*
 ghost use Rattle.unit_rules.specs.Limits.{longest_line, longest_train};
 ghost use Rattle.unit_rules.specs.Zone.{LiesOn};
 ghost use Rattle.plan_tables.specs.Plan.{PlanLiesOn};
+ghost use Rattle.case_rules.specs.Case.{train_rule};
+ghost use Rattle.run_rules.specs.Runs.{IsMonotone};
+ghost use Rattle.run_rules.specs.Speeds.{squared};
 ghost use Rattle.restrictions.specs.Force.{put_in, take_from, zone_of, zones_of};
 ghost use Rattle.incr_envelope.specs.Envelope.{IsFromScratch, IsOf, IsOneCase, arrival_in, respared, touched_by};
 ghost use Rattle.time_brackets.specs.Sums.{block_cells};
@@ -84,6 +87,8 @@ impl Envelope {
         requires { PlanLiesOn line.length plan }
         ensures case { IfOk result (IsOf line stock plan []) }
         ensures kept { IfOk result IsFromScratch }
+        ensures monotone { IfOk result (λ _. IsMonotone (train_rule line stock)
+            line.length (squared stock.top)) }
         ensures cost { steps.new ≤ steps.old + 35 * (line.length + 1) }
     {
         let force = InForce::new(alloc);
@@ -103,10 +108,14 @@ impl Envelope {
         requires zones { All (LiesOn line.length) (zones_of force.pairs) }
         ensures case { IfOk result (IsOf line stock plan force.pairs) }
         ensures kept { IfOk result IsFromScratch }
+        ensures monotone { IfOk result (λ _. IsMonotone (train_rule line stock)
+            line.length (squared stock.top)) }
         ensures cost { steps.new ≤ steps.old + (33 * (line.length + 1) + 2 * line.length) }
     {
         let (mass, train) = (stock.mass(), stock.length());
         let (limits, rule) = course_of(alloc, &line, stock, &plan, &force)?;
+        // What a rule keeps is told by its calls.
+        let _cells = rule.cells();
         let run = first_run(alloc, &rule, &limits, steps)?;
         let envelope = Envelope {
             line,

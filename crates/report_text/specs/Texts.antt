@@ -40,3 +40,8 @@ reach_text (Stalled k) = codes "stalled " ++ decimal k ++ codes "\n"
 -- that a certificate which says so is right
 abbrev pub valid_text : Reach → List ℕ
 valid_text reach = codes "valid " ++ reach_text reach
+
+-- how far a train gets: its squared speeds over the whole line, or the point that it doesn't get to
+abbrev pub envelope_text : List ℕ → Reach → List ℕ
+envelope_text speeds Whole = list_text speeds
+envelope_text speeds (Stalled k) = reach_text (Stalled k)

@@ -5,10 +5,12 @@
 ghost use Rattle.std.specs.Prelude.{◌≡◌, ◌≤◌, ◌+◌, ◌++◌, [], length, slice_index, OnOk, OnErr};
 ghost use Rattle.run_io.specs.Texts.{numbers_text, piece};
 ghost use Rattle.run_io.specs.Told.{HasCause, Writes, WritesFront};
-ghost use Rattle.report_text.specs.Texts.{bands_line, bands_text, list_text, point_line, reach_text, speed_line, train_line, valid_text};
+ghost use Rattle.report_text.specs.Texts.{bands_line, bands_text, envelope_text, list_text, point_line, reach_text, speed_line, train_line, valid_text};
 
+mod replies;
 mod timetable;
 
+pub use replies::{Reply, write_reply};
 use run_io::{BLOCK, Block, Failed, ROW, Rows, Sink, write_rows};
 use stock_tables::Stock;
 pub use timetable::write_timetable;
@@ -161,8 +163,23 @@ pub fn write_valid<K: Sink>(out: &mut K, reach: Reach) -> Result<(), Failed>
     block.flush(out)
 }
 
+/// Writes the squared speeds of a train that gets over the whole line, by point; or `stalled K` with the
+/// first point that no train gets to.
+pub fn write_envelope<K: Sink>(out: &mut K, speeds: &[u32], reach: Reach) -> Result<(), Failed>
+    ensures ok { OnOk result (Writes (K.told out.old) (K.told out.new)
+        (envelope_text speeds.now reach)) }
+    ensures failed { OnErr result (WritesFront (K.told out.old) (K.told out.new)
+        (envelope_text speeds.now reach)) }
+    ensures cause { HasCause (K.told out.old) (K.told out.new) result }
+{
+    match reach {
+        Reach::Whole => write_list(out, speeds),
+        Reach::Stalled { .. } => write_reach(out, reach),
+    }
+}
+
 // Puts how far a train gets on an empty block.
-fn put_reach(block: &mut Block, reach: Reach)
+pub(crate) fn put_reach(block: &mut Block, reach: Reach)
     requires { block.old ≡ [] }
     ensures text { block.new ≡ reach_text reach }
     ensures short { length block.new ≤ 29 }

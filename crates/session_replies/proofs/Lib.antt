@@ -1,0 +1,3 @@
+pub mod RowFacts
+mod RoomFacts
+mod AnswerFacts
