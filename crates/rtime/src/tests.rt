@@ -15,6 +15,8 @@ const CAPS: &[u8] = b"0 36000000\n1 12960000\n2 12960000\n3 12960000\n4 36000000
 
 const TEN: &[u8] = b"line,Ten,10\n";
 
+const TWO: &[u8] = b"line,Two,2\npoint,2,End\n";
+
 const HILL: &[u8] = b"line,Hill,1000\ngradient,50,1000,100\n";
 
 // On the level full effort adds 20000 to its squared speed in each metre, and its brakes take 25920.
@@ -22,7 +24,7 @@ const TOY: &[u8] =
     b"mass = 259200\nrotating = 0\nlength = 10\ntop = 60\neffort = [[0, 20000], [60, 20000]]\nresistance = [0, 0, 0]\nbrake = [[0, 100], [60, 100]]\n";
 
 // Its fastest run over ten level metres.
-const RUN: &[u8] =
+pub(crate) const RUN: &[u8] =
     b"0 0\n1 20000\n2 40000\n3 60000\n4 80000\n5 100000\n6 103680\n7 77760\n8 51840\n9 25920\n10 0\n";
 
 // The outside of a case: the calls of the shelf that fail, the room of the sink, the bytes that it
@@ -63,7 +65,7 @@ const TOO_SHORT: Status = Status::Refused {
 const CASES: [Case; 18] = [
     (LIMITED, FINE, Status::Done, CAPS),
     (LIMITED, SLOW, Status::Done, CAPS),
-    ("caps none.csv 1 60", FINE, Status::ReadFault, b""),
+    ("caps absent.csv 1 60", FINE, Status::ReadFault, b""),
     ("caps", FIRST_FETCH_FAILS, Status::Usage, b"usage\n"),
     ("", SMALL, Status::WriteFault, b"usag"),
     (FREE, FINE, Status::Done, RUN),
@@ -88,16 +90,18 @@ const CASES: [Case; 18] = [
 ];
 
 // The files that the words of the cases name.
-const FILES: [(&str, &[u8]); 5] = [
+const FILES: [(&str, &[u8]); 7] = [
     ("lim.csv", LIM),
     ("ten.csv", TEN),
+    ("two.csv", TWO),
     ("hill.csv", HILL),
     ("short.csv", b"line,Short,1\n"),
     ("toy.toml", TOY),
+    ("none.csv", b""),
 ];
 
 fn file_at(alloc: Global, place: usize) -> Result<(String, Vec<u8>), AllocError>
-    requires { place < 5 }
+    requires { place < 7 }
 {
     let (name, bytes) = FILES[place];
     let name = String::from_str(alloc, name)?;
@@ -107,9 +111,9 @@ fn file_at(alloc: Global, place: usize) -> Result<(String, Vec<u8>), AllocError>
     }
 }
 
-fn all_files(alloc: Global) -> Result<Vec<(String, Vec<u8>)>, AllocError> {
+pub(crate) fn all_files(alloc: Global) -> Result<Vec<(String, Vec<u8>)>, AllocError> {
     let mut files = Vec::new(alloc);
-    for place in 0..5 {
+    for place in 0..7 {
         files.push(file_at(alloc, place)?)?;
     }
     Ok(files)
@@ -123,7 +127,7 @@ fn shelf_with(alloc: Global, failing: &[u64]) -> Result<MemShelf, AllocError> {
     }
 }
 
-fn words_of(alloc: Global, given: &str) -> Result<Vec<String>, AllocError> {
+pub(crate) fn words_of(alloc: Global, given: &str) -> Result<Vec<String>, AllocError> {
     let mut words = Vec::new(alloc);
     for word in given.split(' ') {
         words.push(String::from_str(alloc, word)?)?;

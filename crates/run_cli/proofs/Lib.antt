@@ -2,5 +2,6 @@ pub mod ServeFacts
 pub mod LoadFacts
 pub mod OnceFacts
 pub mod CertFacts
+pub mod SessionFacts
 pub mod FormFacts
 mod TimeFacts

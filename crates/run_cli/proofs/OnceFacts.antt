@@ -1,5 +1,5 @@
 -- That there is one answer at most.
-use Rattle.std.proofs.Common.{◌≡◌, ℕ, List, [], Option, Some, None, sym, ap, subst, ◌∙◌, inl, inr}
+use Rattle.std.proofs.Common.{◌≡◌, ℕ, List, [], ◌∷◌, ◌++◌, take, Option, Some, None, arith, sym, ap, subst, ◌∙◌, inl, inr}
 use Rattle.case_rules.specs.Case.{train_rule}
 use Rattle.incr_envelope.specs.Envelope.{caps_under}
 use Rattle.line_tables.specs.Line.{LineView}
@@ -19,6 +19,13 @@ use Rattle.cert_check.proofs.FaultFacts.{IsFirstBroken-once, IsFirstBroken-uncer
 use Rattle.cert_check.proofs.OnceFacts.{brakes_once, reaches_once}
 use Rattle.certificate.specs.Texts.{CertView, cert_text}
 use Rattle.run_words.specs.Requests.{CaseNames}
+use Rattle.restrictions.specs.Edits.{lines_of}
+use Rattle.session_lines.specs.Dialogues.{Replies}
+use Rattle.session_lines.specs.Lines.{whole_lines}
+use Rattle.session_replies.specs.Asked.{Asked, case_after}
+use Rattle.session_replies.specs.Cases.{CaseView, caps_of, case_of, rule_of}
+use Rattle.session_replies.specs.Replies.{reply_text, talk}
+use Rattle.unit_rules.specs.Limits.{most_bytes}
 use Rattle.run_cli.specs.Check.{IsChecked}
 use Rattle.run_cli.specs.FileForms.{ByBoth, ByCase, ByCert, ByClaim, ByEdits, CaseAnswer, ClaimAnswer, ByLine, ByPlan, ByStock}
 use Rattle.run_cli.specs.Files.{cert_reading, edits_reading, line_reading, plan_reading, stock_reading, table_in}
@@ -26,9 +33,10 @@ use Rattle.run_cli.specs.Plan.{IsTimetable, ShowsCertificate, plan_answer}
 use Rattle.run_words.specs.declared.requests.Print.{Print}
 use Rattle.run_words.specs.declared.requests.Print.TheVariants as print
 use Rattle.run_cli.specs.Meanings.{Answer, AnswersBy, Is, IsOnce}
-use Rattle.run_cli.specs.Statuses.{status_text}
+use Rattle.run_cli.specs.Session.{RepliesTo}
+use Rattle.run_cli.specs.Statuses.{input_number, status_text}
 use Rattle.run_cli.specs.declared.status.Status.{Status}
-use Rattle.run_cli.specs.declared.status.Status.TheVariants.{Done, NotValid, Stalled}
+use Rattle.run_cli.specs.declared.status.Status.TheVariants.{Done, NotValid, Stalled, TooLong}
 
 pub Is-once : (status : Status) (text : List ℕ) → IsOnce (Is status text)
 Is-once status text s r t u a b = record { one_status = a.status_is ∙ sym b.status_is; one_text = a.text_is ∙ sym b.text_is }
@@ -142,3 +150,35 @@ pub plan_answer-once : (kind : Print) (table : LineView) (train : StockView) (pl
 plan_answer-once print.Envelope table train plan force = IsEnvelope-once table train plan force
 plan_answer-once print.Timetable table train plan force = IsTimetable-once table train plan force
 plan_answer-once print.Cert table train plan force = ShowsCertificate-once table train plan force
+
+-- a line has one reply at most in a case, and so have lines one after another
+reply-once : (c : CaseView) (a : Asked) (t u : List ℕ) → talk.replies c a t → talk.replies c a u → t ≡ u
+reply-once c a t u r q =
+    let after = case_after c a in
+    let x = caps_of after in
+    let rule = rule_of after in
+    let list = brakes_once rule x r.run.c q.run.c r.is_run.right.brakes q.is_run.right.brakes in
+    let rest = reaches_once rule x r.run.e q.run.e r.run.verdict q.run.verdict r.is_run.right.reaches r.is_run.right.long q.is_run.right.reaches q.is_run.right.long in
+    r.text ∙ (λ k. reply_text after (record { c = list k; e = rest.0 k; verdict = rest.1 k }) a) ∙ sym q.text
+
+replies-once : (c : CaseView) (lines : List (List ℕ)) (t u : List ℕ) → Replies talk c lines t → Replies talk c lines u → t ≡ u
+replies-once c [] t u r q = r ∙ sym q
+replies-once c (line ∷ lines) t u (v, r, (w, rs, e)) (v', q, (w', qs, f)) =
+    let a = talk.asked c line in
+    let first = reply-once c a v v' r q in
+    let later = replies-once (talk.next c a) lines w w' rs qs in
+    e ∙ (λ k. first k ++ later k) ∙ sym f
+
+pub RepliesTo-once : (input : List ℕ) (line : LineView) (stock : StockView) (plan : PlanView) (force : List (List ℕ × Zone)) → IsOnce (RepliesTo input line stock plan force)
+RepliesTo-once input line stock plan force s r t u (inl a) (inl b) = record {
+  one_status = a.is_done ∙ sym b.is_done;
+  one_text = replies-once (case_of line stock plan force) (lines_of input) t u a.replies b.replies;
+}
+RepliesTo-once input line stock plan force s r t u (inl a) (inr b) = absurd (omega (arith, a.short, b.long))
+RepliesTo-once input line stock plan force s r t u (inr a) (inl b) = absurd (omega (arith, a.long, b.short))
+RepliesTo-once input line stock plan force s r t u (inr a) (inr b) =
+    let said = replies-once (case_of line stock plan force) (whole_lines (take most_bytes input)) a.said b.said a.replies b.replies in
+    record {
+      one_status = a.is.status_is ∙ sym b.is.status_is;
+      one_text = a.is.text_is ∙ ap (λ (q : List ℕ). q ++ status_text (TooLong input_number)) said ∙ sym b.is.text_is;
+    }

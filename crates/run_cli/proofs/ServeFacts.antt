@@ -81,7 +81,7 @@ EndsStopped-memory m files shelf shelf' input out out' form nothing = record {
   taken = [];
   took = Consumes-none input.holds;
   text = [];
-  stands = form.silent files Memory refl;
+  stands = form.silent files input.holds Memory refl;
   written = nothing;
 }
 
@@ -227,8 +227,8 @@ Serves-unread m shelf shelf' input out out' before form refused nothing = record
 }
   where
     unread_at : (files : Files) → Rose shelf shelf' ⊎ (refusal files (m.reads (Some files)) ≡ Some ReadFault) → EndsBy stopped m files [] (outside shelf input out) (outside shelf' input out') ReadFault
-    unread_at files (inl rose) = record { reason = inr (inl rose); taken = []; took = Consumes-none input.holds; text = []; stands = form.silent files ReadFault refl; written = nothing }
-    unread_at files (inr first) = record { reason = inr (inr (inr first)); taken = []; took = Consumes-none input.holds; text = []; stands = form.silent files ReadFault refl; written = nothing }
+    unread_at files (inl rose) = record { reason = inr (inl rose); taken = []; took = Consumes-none input.holds; text = []; stands = form.silent files input.holds ReadFault refl; written = nothing }
+    unread_at files (inr first) = record { reason = inr (inr (inr first)); taken = []; took = Consumes-none input.holds; text = []; stands = form.silent files input.holds ReadFault refl; written = nothing }
 
     ends : IsFirst m shelf shelf' ReadFault
         → IfSome shelf.holds (λ files. (i : List ℕ) → EndsBy stopped m files i (outside shelf input out) (outside shelf' input out') ReadFault)
@@ -295,11 +295,11 @@ Serves-refused {T} m shelf shelf' input out out' before status s result is_err f
 -- words that are no form were refused
 pub Serves-usage : (shelf : Told Files) (input out out' : Told (List ℕ)) (before : ℕ) (s : Status) → Finishes Usage out out' s → Serves no_form (outside shelf input out) (outside shelf input out') before before s
 Serves-usage shelf input out out' before s (inl (is, text)) =
-    let form : IsSilent no_form = record { silent = λ files s is. refl; idle = λ told. omega arith } in
+    let form : IsSilent no_form = record { silent = λ files left s is. refl; idle = λ told. omega arith } in
     subst (λ (r : Status). Serves no_form (outside shelf input out) (outside shelf input out') before before r) (sym is)
     (Serves-told no_form shelf shelf input out out' before Usage form refl (λ e. cc e) (inr refl) (IfSome-all shelf.holds _ (λ files i. record { status_is = refl; text_is = refl })) text)
 Serves-usage shelf input out out' before s (inr (is, front, rose)) =
-    let form : IsSilent no_form = record { silent = λ files s is. refl; idle = λ told. omega arith } in
+    let form : IsSilent no_form = record { silent = λ files left s is. refl; idle = λ told. omega arith } in
     subst (λ (r : Status). Serves no_form (outside shelf input out) (outside shelf input out') before before r) (sym is)
     (Serves-short no_form shelf shelf input out out' before form
     (IfSome-all shelf.holds _ (λ files i. inr (record { status = Usage; text = status_text Usage; answer = record { status_is = refl; text_is = refl }; written = front }))) rose)

@@ -44,7 +44,7 @@ pub record EndsStopped (m : Meaning) (files : Files) (old new : Outside) (s : St
   pub taken : List ℕ
   pub took : Consumes old.input.holds new.input.holds taken
   pub text : List ℕ
-  pub stands : m.so_far files taken s text
+  pub stands : m.so_far files taken new.input.holds s text
   pub written : Writes old.out new.out text
 
 -- what was written, by how much of its text a status says there is

@@ -6,7 +6,7 @@ use Rattle.incr_envelope.specs.Envelope.{caps_under}
 use Rattle.incr_envelope.specs.declared.run.Drive.{Drive}
 use Rattle.line_tables.specs.Line.{LineView}
 use Rattle.plan_tables.specs.Plan.{PlanView, empty_plan}
-use Rattle.report_text.specs.Texts.{list_text, reach_text}
+use Rattle.report_text.specs.Texts.{envelope_text, list_text, reach_text}
 use Rattle.run_io.specs.Fetches.{Files}
 use Rattle.run_rules.specs.Runs.{IsGreatestRun, IsStalled}
 use Rattle.run_rules.specs.Runs.{ReachesAs}
@@ -50,12 +50,7 @@ abbrev pub envelope_meaning : List ℕ → List ℕ → Meaning
 envelope_meaning line_name stock_name =
     train_form line_name stock_name IsFreeEnvelope MayStall (λ cells. 33 * (cells + 1) + cells)
 
--- the text for how far the train gets: its squared speeds over the whole line, or the point that it doesn't get to
-abbrev pub envelope_text : List ℕ → Reach → List ℕ
-envelope_text speeds reach.Whole = list_text speeds
-envelope_text speeds (reach.Stalled k) = reach_text (reach.Stalled k)
-
--- and the status under which it is written
+-- the status under which how far the train gets is written
 abbrev pub envelope_status : Reach → Status
 envelope_status reach.Whole = Done
 envelope_status (reach.Stalled k) = Stalled k

@@ -24,7 +24,7 @@ file_form reads answers may_end steps = record {
   reads = λ told. reads;
   reads_input = false;
   answers = λ files input. answers files;
-  so_far = λ files taken s text. text ≡ [];
+  so_far = λ files taken left s text. text ≡ [];
   may_end = may_end;
   steps = λ told taken n. steps told n;
 }

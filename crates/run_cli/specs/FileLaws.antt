@@ -22,7 +22,7 @@ pub alone : (reads : List File) (answers : Files → Answer) (may_end : Status �
     → IsFileForm (file_form reads answers may_end (AtMost most))
 alone reads answers may_end most = record {
   no_input = refl;
-  quiet = record { silent = λ files s is. refl; idle = λ told. omega arith };
+  quiet = record { silent = λ files left s is. refl; idle = λ told. omega arith };
 }
 
 -- what answers by a line, by a stock, or by both is meant where these were read

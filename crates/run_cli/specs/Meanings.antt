@@ -23,8 +23,8 @@ pub record Meaning : Type 1 where
   pub reads_input : Bool
   -- what answers over files none of which is in the way, and over an input
   pub answers : Files → List ℕ → Answer
-  -- what stands written where a status stops the run after so much of the input
-  pub so_far : Files → List ℕ → Answer
+  -- what stands written where a status stops the run after so much of the input, by what is left of it, where that is told
+  pub so_far : Files → List ℕ → Option (List ℕ) → Answer
   -- the statuses that say how the work ended
   pub may_end : Status → Type 0
   -- how many steps are allowed over the files, where they are told, and over so much of the input
@@ -55,7 +55,7 @@ AnswersOnce m = (files : Files) (input : List ℕ) → IsOnce (Answers m files i
 -- a form has written nothing where it is stopped before it has taken any of the input, and may do without
 -- a step
 pub record IsSilent (m : Meaning) : Type 0 where
-  pub silent : (files : Files) (s : Status) → extent_of s ≡ stopped → m.so_far files [] s []
+  pub silent : (files : Files) (left : Option (List ℕ)) (s : Status) → extent_of s ≡ stopped → m.so_far files [] left s []
   pub idle : (told : Option Files) → m.steps told [] 0
 
 -- such a form that doesn't read the input at all

@@ -1,9 +1,7 @@
 -- What the form `plan` means: the fastest run of a train over a line by a plan, its timetable or its certificate; or the
 -- first point that the train can't reach.
-use Rattle.std.specs.Prelude.{ℕ, ◌+◌, ◌-◌, ◌*◌, ◌≡◌, ◌<◌, ◌≤◌, ◌⊎◌, List, [], Option, Some, None}
+use Rattle.std.specs.Prelude.{ℕ, ◌+◌, ◌*◌, ◌≡◌, ◌≤◌, ◌⊎◌, List, [], Option, Some, None}
 use Rattle.std.proofs.Common.{arith, refl, inl, inr}
-use Rattle.allowances.specs.Arrivals.{arrival}
-use Rattle.allowances.specs.Laws.{IsNoLater}
 use Rattle.allowances.specs.Rows.{row_count, rows_of, section_count}
 use Rattle.case_rules.specs.Case.{train_rule}
 use Rattle.cert_check.specs.Laws.{IsCertificateOf}
@@ -13,11 +11,13 @@ use Rattle.incr_envelope.specs.Envelope.{EnvelopeView, caps_under}
 use Rattle.line_tables.specs.Line.{LineView}
 use Rattle.plan_tables.specs.Limits.{most_calls, most_sections}
 use Rattle.plan_tables.specs.Plan.{PlanView}
-use Rattle.report_text.specs.Texts.{reach_text}
+use Rattle.report_text.specs.Texts.{envelope_text, reach_text}
 use Rattle.report_text.specs.Timetables.{timetable_text}
 use Rattle.run_io.specs.Fetches.{Files}
-use Rattle.run_rules.specs.Runs.{IsEnvelopeTo, IsGreatestRun, Keeps}
+use Rattle.run_rules.specs.Runs.{IsEnvelopeTo, IsGreatestRun}
 use Rattle.run_words.specs.Requests.{CaseNames, case_view}
+use Rattle.session_replies.specs.Cases.{case_of}
+use Rattle.session_replies.specs.Runs.{NoneIsSooner}
 use Rattle.run_words.specs.declared.requests.PlanForm.{PlanForm}
 use Rattle.run_words.specs.declared.requests.Print.{Print}
 use Rattle.run_words.specs.declared.requests.Print.TheVariants as print
@@ -25,7 +25,7 @@ use Rattle.stock_tables.specs.Stock.{StockView}
 use Rattle.unit_rules.specs.declared.Zone.{Zone}
 use Rattle.time_brackets.specs.Sums.{block_cells}
 use Rattle.unit_rules.specs.declared.Reach.TheVariants as reach
-use Rattle.run_cli.specs.Envelope.{IsEnvelope, ShowsStall, envelope_status, envelope_status-ends, envelope_status-whole, envelope_text}
+use Rattle.run_cli.specs.Envelope.{IsEnvelope, ShowsStall, envelope_status, envelope_status-ends, envelope_status-whole}
 use Rattle.run_cli.specs.FileForms.{CaseAnswer, MayStall, case_form}
 use Rattle.run_cli.specs.FileLaws.{case_meant, cells_allow}
 use Rattle.run_cli.specs.Files.{IsCase, line_reading, most_cells, plan_reading, table_in}
@@ -39,18 +39,11 @@ use Rattle.run_cli.specs.declared.report.PlanReport.TheVariants.{Cert, Speeds, S
 use Rattle.run_cli.specs.declared.status.Status.TheVariants.{Done, Stalled}
 use Rattle.run_cli.specs.declared.status.Status.{Status}
 
--- no train on the line by the plan, under the restrictions in force, that gets to the last of the first `points` points comes to
--- one of them sooner than e does, by either end of its arrival
-abbrev pub NoneIsSooner : LineView → StockView → PlanView → List (List ℕ × Zone) → List ℕ → ℕ → Type 0
-NoneIsSooner line stock plan force e points =
-    (q : List ℕ) → Keeps (train_rule line stock) (caps_under line stock plan force) q (points - 1)
-    → (i : ℕ) → i < points → IsNoLater (arrival plan e i) (arrival plan q i)
-
 -- the timetable of the greatest run of the train on the line by the plan, under the restrictions in force
 pub record ShowsTimes (line : LineView) (stock : StockView) (plan : PlanView) (force : List (List ℕ × Zone)) (s : Status) (t : List ℕ) : Type 0 where
   pub list : List ℕ
   pub is_list : IsGreatestRun (train_rule line stock) (caps_under line stock plan force) list
-  pub soonest : NoneIsSooner line stock plan force list (line.length + 1)
+  pub soonest : NoneIsSooner (case_of line stock plan force) list (line.length + 1)
   pub is : Is Done (timetable_text plan (rows_of plan line.length list)) s t
 
 -- the point at which the train is stalled, where no train comes to a point before it sooner than that of the envelope up to
@@ -59,7 +52,7 @@ pub record ShowsStalledTimes (line : LineView) (stock : StockView) (plan : PlanV
   pub list : List ℕ
   pub stall : ShowsStall line stock plan force s t
   pub is_list : IsEnvelopeTo (train_rule line stock) (caps_under line stock plan force) list stall.point
-  pub soonest : NoneIsSooner line stock plan force list stall.point
+  pub soonest : NoneIsSooner (case_of line stock plan force) list stall.point
 
 -- that timetable, or the train's stall
 abbrev pub IsTimetable : CaseAnswer

@@ -24,7 +24,7 @@ status_text (NotValid rule point) = codes "not valid " ++ decimal rule ++ codes 
 status_text (TooLong file) = codes "too long " ++ decimal file ++ codes "\n"
 status_text _ = []
 
--- the numbers of line, stock, plan, edits and certificate files among the files of all forms
+-- the numbers of line, stock, plan, edits and certificate files and of a session's input among the files of all forms
 abbrev pub line_number : ℕ
 line_number = 1
 
@@ -39,6 +39,9 @@ edits_number = 4
 
 abbrev pub cert_number : ℕ
 cert_number = 5
+
+abbrev pub input_number : ℕ
+input_number = 6
 
 -- where the line of a file is missing, place and rule are 0
 abbrev pub line_status : LineFault → Status

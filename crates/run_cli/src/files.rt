@@ -36,6 +36,9 @@ pub(crate) const EDITS_FILE: u32 = 4;
 /// The number of certificate files.
 pub(crate) const CERT_FILE: u32 = 5;
 
+/// The number of a session's input.
+pub(crate) const INPUT: u32 = 6;
+
 /// A reader of one kind of file.
 pub(crate) trait Reader {
     /// What such a file reads as.

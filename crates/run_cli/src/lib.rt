@@ -5,7 +5,7 @@
 ghost use Rattle.std.specs.Prelude.{◌≡◌, Some, map, string_bytes};
 ghost use Rattle.run_cli.specs.Ends.{EndsAs, HasCause, IsComplete, TakesInput, TakesSteps, outside};
 ghost use Rattle.run_cli.specs.Forms.{WordsAnswerOnce, meaning_of, meant_by};
-ghost use Rattle.run_cli.specs.Laws.{PrintedAreValid};
+ghost use Rattle.run_cli.specs.Laws.{PrintedAreValid, RepliedAreValid};
 ghost use Rattle.run_cli.specs.Loads.{AsksOnce};
 ghost use Rattle.run_cli.specs.Serves.{IsServed};
 ghost use Rattle.run_words.specs.Requests.{view};
@@ -23,11 +23,13 @@ mod plan;
 mod report;
 mod rise;
 mod rise_report;
+mod session;
 mod status;
 mod stock;
 mod timetable_report;
 
 use crate::form::{refuse, serve};
+use crate::session::serve_session;
 use run_io::{Shelf, Sink, Source};
 use run_words::{Request, read_request};
 pub use status::Status;
@@ -69,10 +71,12 @@ pub fn run<S: Shelf, I: Source, K: Sink, L: Ledger>(
 
 /// The laws of answers that follow from the definitions alone. No words over any files and any input
 /// have two, so a run that ends with its whole text ends with the one status and the one text that
-/// there can be. And a certificate that is printed is valid where it is checked.
+/// there can be. And a certificate that is printed, by `plan` or by a session, is valid where it is
+/// checked over files that read as the same case.
 pub fn laws_of_answers()
     ensures once { WordsAnswerOnce }
-    ensures valid { PrintedAreValid }
+    ensures printed { PrintedAreValid }
+    ensures replied { RepliedAreValid }
 {}
 
 // Reads the words, and serves what they ask for.
@@ -118,5 +122,6 @@ fn serve_request<S: Shelf, I: Source, K: Sink, L: Ledger>(
         Request::Envelope(form) => serve(alloc, &form, shelf, input, out, steps),
         Request::Plan(form) => serve(alloc, &form, shelf, input, out, steps),
         Request::Check(form) => serve(alloc, &form, shelf, input, out, steps),
+        Request::Session(form) => serve_session(alloc, &form, shelf, input, out, steps),
     }
 }

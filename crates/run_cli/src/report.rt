@@ -1,9 +1,9 @@
 //! The reports of the forms.
 
 ghost use Rattle.std.specs.Prelude.{◌≡◌, ◌≤◌, ◌+◌, ◌*◌, OnOk, OnErr};
-ghost use Rattle.report_text.specs.Texts.{bands_text, list_text};
+ghost use Rattle.report_text.specs.Texts.{bands_text, envelope_text, list_text};
 ghost use Rattle.run_cli.specs.Check as check;
-ghost use Rattle.run_cli.specs.Envelope.{envelope_status, envelope_text};
+ghost use Rattle.run_cli.specs.Envelope.{envelope_status};
 ghost use Rattle.run_cli.specs.Plan.{found_status, found_text};
 ghost use Rattle.run_cli.specs.declared.status.Status.TheVariants.{Done};
 
@@ -13,7 +13,9 @@ use crate::form::{Report, write_status};
 use crate::timetable_report::TimetableReport;
 use cert_check::CertFault;
 use incr_envelope::Drive;
-use report_text::{write_bands, write_list, write_reach, write_timetable, write_valid};
+use report_text::{
+    write_bands, write_envelope, write_list, write_reach, write_timetable, write_valid,
+};
 use run_io::{Failed, Sink};
 use std::sync::ledger::Ledger;
 use stock_tables::Stock;
@@ -71,10 +73,7 @@ impl Report for Drive {
     ghost work = { λ r. 0 };
 
     fn write<K: Sink, L: Ledger>(&self, out: &mut K, _steps: &mut Steps<L>) -> Result<(), Failed> {
-        match self.reach {
-            Reach::Whole => write_list(out, self.speeds.as_slice()),
-            Reach::Stalled { .. } => write_reach(out, self.reach),
-        }
+        write_envelope(out, self.speeds.as_slice(), self.reach)
     }
 
     fn status(&self) -> Status {

@@ -14,6 +14,7 @@ use Rattle.run_words.specs.declared.requests.PlanForm.{PlanForm}
 use Rattle.run_words.specs.declared.requests.Print.{Print}
 use Rattle.run_words.specs.declared.requests.Print.TheVariants as print
 use Rattle.run_words.specs.declared.requests.RiseForm.{RiseForm}
+use Rattle.run_words.specs.declared.requests.SessionForm.{SessionForm}
 use Rattle.run_words.specs.declared.requests.StockForm.{StockForm}
 use Rattle.run_words.specs.declared.requests.Request.{Request as Form}
 use Rattle.run_words.specs.declared.requests.Request.TheVariants as form
@@ -37,6 +38,7 @@ pub data Request : Type 0 where
   Envelope : List ℕ → List ℕ → Request
   Plan : CaseNames → Print → Request
   Check : CaseNames → List ℕ → Request
+  Session : List ℕ → List ℕ → List ℕ → Request
 
 infixl 9 ◌>>=◌
 abbrev ◌>>=◌ : {A B : Type 0} → Option A → (A → Option B) → Option B
@@ -142,6 +144,17 @@ check_in rows = do
   cert ← first_of (codes "cert") rows
   Some (Check names cert)
 
+-- `session LINE STOCK PLAN`
+abbrev pub session_app : App
+session_app = case_app (codes "session")
+
+abbrev pub session_in : List Row → Option Request
+session_in rows = do
+  line ← first_of (codes "line") rows
+  stock ← first_of (codes "stock") rows
+  plan ← first_of (codes "plan") rows
+  Some (Session line stock plan)
+
 -- the first of the words is this name
 abbrev pub asks : List Text → Text → Bool
 asks [] name = false
@@ -158,6 +171,7 @@ request_of words =
     else if asks words (codes "envelope") then rows_in envelope_app words >>= envelope_in
     else if asks words (codes "plan") then rows_in plan_app words >>= plan_in
     else if asks words (codes "check") then rows_in check_app words >>= check_in
+    else if asks words (codes "session") then rows_in session_app words >>= session_in
     else None
 
 -- what each form that was read asks for
@@ -185,6 +199,9 @@ plan_view f = Plan (case_view f.case) f.print
 abbrev pub check_view : CheckForm → Request
 check_view f = Check (case_view f.case) f.cert.now
 
+abbrev pub session_view : SessionForm → Request
+session_view f = Session f.line.now f.stock.now f.plan.now
+
 -- what a request that was read asks for
 abbrev pub view : Form → Request
 view (form.Caps f) = caps_view f
@@ -194,3 +211,4 @@ view (form.Brakes f) = brakes_view f
 view (form.Envelope f) = envelope_view f
 view (form.Plan f) = plan_view f
 view (form.Check f) = check_view f
+view (form.Session f) = session_view f

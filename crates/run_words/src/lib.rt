@@ -5,8 +5,8 @@ ghost use Rattle.std.specs.Prelude.{◌≡◌, IfOk, map, option_and_then, optio
 ghost use Rattle.clap.specs.Words.{app_of, found_of, rows_of};
 ghost use Rattle.run_words.specs.Commands.{rows_in};
 ghost use Rattle.run_words.specs.Requests.{asks, case_view, print_of, request_of, view};
-ghost use Rattle.run_words.specs.Requests.{brakes_app, caps_app, case_app, check_app, envelope_app, plan_app, rise_app, stock_app, train_app};
-ghost use Rattle.run_words.specs.Requests.{brakes_in, caps_in, case_in, check_in, envelope_in, plan_in, rise_in, stock_in};
+ghost use Rattle.run_words.specs.Requests.{brakes_app, caps_app, case_app, check_app, envelope_app, plan_app, rise_app, session_app, stock_app, train_app};
+ghost use Rattle.run_words.specs.Requests.{brakes_in, caps_in, case_in, check_in, envelope_in, plan_in, rise_in, session_in, stock_in};
 
 mod command;
 mod requests;
@@ -15,7 +15,7 @@ use crate::command::{matches_by, number_of, plain_command, value_of, with_option
 use clap::{ArgMatches, Command};
 pub use requests::{
     BrakesForm, CapsForm, CaseForm, CheckForm, EnvelopeForm, PlanForm, Print, Request, RiseForm,
-    StockForm,
+    SessionForm, StockForm,
 };
 use std::alloc::Global;
 use unit_rules::{GREATEST_SPEED, LONGEST_TRAIN, Memory};
@@ -27,7 +27,8 @@ use unit_rules::{GREATEST_SPEED, LONGEST_TRAIN, Memory};
 /// - `brakes LINE STOCK`,
 /// - `envelope LINE STOCK`,
 /// - `plan LINE STOCK PLAN --print envelope`, `timetable` or `cert`, and `--edits FILE` or none,
-/// - `check LINE STOCK PLAN CERT`, and `--edits FILE` or none.
+/// - `check LINE STOCK PLAN CERT`, and `--edits FILE` or none,
+/// - `session LINE STOCK PLAN`.
 ///
 /// A number has no sign, no space and no zero in front. A value that begins with a dash stands behind
 /// a word `--`, and that of an option behind `=`, but for a dash alone.
@@ -48,6 +49,8 @@ pub fn read_request<'a>(alloc: Global, words: &'a [String]) -> Result<Option<Req
         read_plan(alloc, words)
     } else if asks(words, "check") {
         read_check(alloc, words)
+    } else if asks(words, "session") {
+        read_session(alloc, words)
     } else {
         Ok(None)
     }
@@ -275,4 +278,24 @@ fn check_of<'a>(matches: &ArgMatches<'a>) -> Option<Request<'a>>
     let case = case_of(matches)?;
     let cert = value_of(matches, "cert")?;
     Some(Request::Check(CheckForm { case, cert }))
+}
+
+// Reads `session LINE STOCK PLAN`.
+fn read_session<'a>(alloc: Global, words: &'a [String]) -> Result<Option<Request<'a>>, Memory>
+    ensures { IfOk result (λ r. option_map view r
+        ≡ option_and_then session_in (rows_in session_app (map string_bytes words.entry.now))) }
+{
+    match matches_by(case_command(alloc, "session")?, words)? {
+        None => Ok(None),
+        Some(matches) => Ok(session_of(&matches)),
+    }
+}
+
+fn session_of<'a>(matches: &ArgMatches<'a>) -> Option<Request<'a>>
+    ensures { option_map view result ≡ session_in (rows_of (found_of matches.now)) }
+{
+    let line = value_of(matches, "line")?;
+    let stock = value_of(matches, "stock")?;
+    let plan = value_of(matches, "plan")?;
+    Some(Request::Session(SessionForm { line, stock, plan }))
 }

@@ -99,6 +99,17 @@ pub struct CheckForm<'a> {
     pub cert: &'a str,
 }
 
+/// `session LINE STOCK PLAN`: replies to the lines of the input, over a train on a line by a plan.
+#[derive(Drop)]
+pub struct SessionForm<'a> {
+    /// The name of the line's file.
+    pub line: &'a str,
+    /// The name of the train's file.
+    pub stock: &'a str,
+    /// The name of the plan's file.
+    pub plan: &'a str,
+}
+
 /// What the words of a command line ask for.
 #[derive(Drop)]
 pub enum Request<'a> {
@@ -116,4 +127,6 @@ pub enum Request<'a> {
     Plan(PlanForm<'a>),
     /// The check of a certificate.
     Check(CheckForm<'a>),
+    /// The replies to the lines of the input.
+    Session(SessionForm<'a>),
 }

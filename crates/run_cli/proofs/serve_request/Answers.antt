@@ -20,3 +20,6 @@ returns-in-Plan g c = rw c.in-Plan.is c.serve-in-Plan.ensures
 
 pub returns-in-Check : goal.returns-in-Check
 returns-in-Check g c = rw c.in-Check.is c.serve-in-Check.ensures
+
+pub returns-in-Session : goal.returns-in-Session
+returns-in-Session g c = rw c.in-Session.is c.serve_session.ensures

@@ -2,7 +2,7 @@ use Rattle.std.proofs.Common.{◌≡◌, ◌∙◌, All, ap}
 use Rattle.plan_tables.specs.Plan.{PlanView}
 use Rattle.allowances.specs.Rows.{rows_of}
 use Rattle.report_text.specs.Timetables.{IsCalled}
-use Rattle.run_cli.proofs.TimeFacts.{rows-called}
+use Rattle.session_replies.proofs.RowFacts.{rows-called}
 use Rattle.run_cli.proofs.plan.timed.Goals as goal
 
 pub invariant_of-result : goal.invariant_of-result
