@@ -19,7 +19,7 @@ import sys
 import tempfile
 import tomllib
 from collections import Counter
-from collections.abc import Iterable, Iterator, Sequence
+from collections.abc import Iterable, Iterator, Mapping, Sequence
 from dataclasses import dataclass, replace
 from functools import cached_property
 from random import Random
@@ -274,6 +274,25 @@ def read_line(text: str) -> Line:
 
     length = next(int(record[2]) for record in records if record[:1] == ["line"])
     return Line(length, zones("gradient"), zones("limit"))
+
+
+def read_points(text: str) -> dict[str, int]:
+    """The points of a line file that breaks no rule, by their names."""
+    records = csv.reader(text.splitlines())
+    return {record[2]: int(record[1]) for record in records if record[:1] == ["point"]}
+
+
+def read_plan(text: str, points: Mapping[str, int]) -> Plan:
+    """The plan of a plan file that breaks no rule, over the points of its line."""
+    records = [record for record in csv.reader(text.splitlines()) if record and record[0][:1] != "#"]
+    ends = {kind: int(rest[0]) for kind, *rest in records if kind in ("depart", "enter", "leave")}
+    calls = ((points[rest[0]], rest[1:]) for kind, *rest in records if kind in ("stop", "pass"))
+    sections = (rest for kind, *rest in records if kind == "allow")
+    return Plan(
+        **ends,
+        calls=tuple(Call(at, int(dwell[0]) if dwell else None) for at, dwell in calls),
+        sections=tuple(Section(int(a), int(b), kind, int(amount)) for a, b, kind, amount in sections),
+    )
 
 
 # What is compared

@@ -4,10 +4,12 @@
 Each row of the document has to be a case with that answer, and each case has to be a row, but those whose
 names begin with "in silence". A row and a case are the same where
 
-- the case is a row of a table `[[table]]`, and the document's row shows the records or keys that stand
-  in it beside its line `line,A,5000` and the keys that are taken out;
+- the case is a row of a table `[[table]]`, and the document's row shows the records, keys or lines that
+  stand in it beside its line `line,A,5000` and the keys that are taken out;
 - the case is a row of a table `[[words]]`, and the document's row shows its words; or
 - the case has the name that the document's row has, where this shows nothing.
+
+Of the replies of a session the last one is the answer.
 """
 
 import pathlib
@@ -39,9 +41,9 @@ def answer_of(cell):
     """What a row says of the answer: a text and an exit status, or that it is no mistake."""
     if cell.startswith("no mistake"):
         return "no mistake"
-    status = {"usage": 2, "nothing": 3}
+    status = {"usage": 2, "nothing": 3, "error": 0}
     text = "".join(CODE.findall(cell)[:1])
-    return text, status.get(text or "nothing", 5)
+    return text, status.get((text or "nothing").split(" ")[0], 5)
 
 
 def records_of(content):
@@ -50,18 +52,23 @@ def records_of(content):
     return frozenset(record.strip() for record in records if record != PLAIN) or frozenset([content])
 
 
+def last_of(output):
+    """The last line of an output whose lines are parted by ` / ` or end in LF."""
+    return output.strip().replace("\n", " / ").split(" / ")[-1]
+
+
 def cases(tables):
     """What each case types, what it answers, and its name."""
     for table in tables["table"]:
         for content, output, status in table["rows"]:
-            yield records_of(content), (output, status), f"{table['name']}: {content}"
+            yield records_of(content), (last_of(output), status), f"{table['name']}: {content}"
     for table in tables["words"]:
         for row in table["rows"]:
             answer = table["output"].strip(), table["status"]
             yield frozenset([" ".join(row) or "no words"]), answer, f"{table['name']}: {row}"
     for case in tables["case"]:
-        status = case.get("status", 0)
-        answer = (case["output"].strip(), status) if status else "no mistake"
+        status, output = case.get("status", 0), last_of(case.get("output", ""))
+        answer = (output, status) if status or output.startswith("error") else "no mistake"
         yield frozenset([case["name"]]), answer, case["name"]
 
 

@@ -221,7 +221,7 @@ def is_zone(words: Sequence[str], length: int) -> bool:
 def code_of(line: str, length: int, held: Collection[str]) -> int | None:
     """The code that a line has, where restrictions of the names `held` are in force; None where none."""
     words = words_of(line)
-    if len(line.encode()) > LONGEST:
+    if len(line.encode(errors="surrogateescape")) > LONGEST:
         return 1
     if not words or len(words) != WORDS.get(words[0]):
         return 2

@@ -1,65 +1,26 @@
 #!/usr/bin/env python3
-"""Runs the tests over the proved program: tests/run.py [PART ..]
+"""Runs the tests over the proved program: tests/run.py [--slow] [PART ..]
 
 The parts, all of which are run where none is named, are `cases`, those of tests/cases/; `compare`, the
-comparisons of compare.py; `certificates`, changed certificates (certificates.py); `kept`, edits of an
-envelope that is kept right (kept.py); `runner`, broken cases that the runner has to fail (runner.py);
+comparisons of compare.py; `sessions`, sessions that are drawn, and how a session goes on and ends
+(sessions.py); `certificates`, changed certificates (certificates.py); `kept`, edits of an envelope that
+is kept right (kept.py); `runner`, broken cases that the runner has to fail (runner.py);
 `wrapper`, the calls of `./rtime` (wrapper.py); `documents`, the commands of the documents
 (documents.py); and `mistakes`, that the manual's table of mistakes and the cases of mistakes say the same
-(mistakes.py). It ends with a line 'N passed, M failed', and before it says how many were skipped, where
-some were. A program that is older than its sources fails, and nothing is run.
+(mistakes.py). With `--slow`, or where it is named, `memory` is one too, which refuses memory (memory.py).
+It ends with a line 'N passed, M failed', and before it says how many were skipped, where some were. A program
+that is older than its sources fails, and nothing is run.
 
-Each file of tests/cases/ is TOML and has tables `[[case]]` with
-
-    name    what the case shows
-    words   the words of the command line: a text, or `{ hex = ".." }`
-    files   the files that lie where the program runs, by name: a text; `{ hex = ".." }`, its bytes;
-            `{ size = N }`, N bytes of 0; `{ text = "..", size = N }`, a text and then line ends, to N
-            bytes; `{ parts = [..] }`, texts and `{ text = "..", times = N }` one after the other;
-            `{ text = "..", count = N }`, the text N times, each with its number from 0 on in place of `%i`,
-            and the number behind that in place of `%n`;
-            `{ fifo = ".." }`, a FIFO into which the text is written once it is read; or
-            `{ path = ".." }`, the bytes of a file of the repository
-    beside  those of the files that no word names; each other one has to be named by a word
-    input   the text of standard input (none: no bytes)
-    stdout  a place to which the output goes in place of a pipe, as "/dev/full" or "closed"
-    status  the exit status that is wanted (none: 0)
-    output  the whole output that is wanted, or
-    spans   the output as runs of points with one text: [[first, last, "text"], ..]; after the lines
-            of `head`, where the case has these, or
-    begins  the lines with which the output begins, and
-    has     the list of whole lines that stand in the output, in that order; where the command prints a
-            line for each point, its lines are also those of the points 0, 1, 2 and so on
-    errors  the whole standard error that is wanted (none: nothing)
-    seconds the time after which a run that goes on is ended, and fails (none: 60)
-    skip    why the case isn't run: it is counted and said, and neither passes nor fails
-
-and tables `[[table]]`, each with `words`, `name`, the name `file` of one file, and `rows` of three:
-the content of the file (records parted by ` / `), the output in the same way, and the status. Beside
-them a table may have
-
-    files   more files, as a case has them
-    base    the text that each row changes: a record `KEY = ..` of a row stands in place of the line
-            with that key, or after the last line; `no KEY` takes the line out
-    wants   how the outputs of the rows are read: "output" (which is meant without it) or "begins"
-
-and tables `[[words]]`, each with `name` and `rows` of words that one answer is wanted for, beside the
-keys of a case. A file that some row names needs no `beside`.
-
-What can't be read in this way fails: another key or table, no way or two to say the output, a way that
-says nothing, a table without a row, two cases of one name, a file that isn't used.
-
-The program is started in a new folder that holds those files alone.
+The head of case_files.py says how a file of tests/cases/ is written. For each case the program is started
+in a new folder that holds the files of the case alone.
 """
 
 import os
 import pathlib
-import signal
 import subprocess
 import sys
 import tempfile
 import threading
-import tomllib
 from collections import Counter
 
 sys.dont_write_bytecode = True  # the sources have no folder of compiled ones beside them
@@ -68,70 +29,27 @@ import certificates
 import compare
 import documents
 import kept
+import memory
 import mistakes
+import pipes
 import runner
+import sessions
 import wrapper
-
-TOP = pathlib.Path(__file__).resolve().parent.parent
-CASES = TOP / "tests" / "cases"
-SECONDS = 60
-KEYS = {"name", "words", "files", "beside", "input", "stdout", "status", "head", "errors"}
-KEYS |= {"seconds", "skip"}
-TABLE_KEYS = {"words", "name", "file", "rows", "files", "base", "wants"}
-TABLES = {"case", "table", "words"}
-WAYS = ({"output"}, {"spans"}, {"begins"}, {"has"}, {"begins", "has"})
-CONTENTS = (
-    *({"parts"}, {"hex"}, {"path"}, {"fifo"}),
-    *({"text", "times"}, {"text", "count"}, {"text", "size"}, {"size"}),
+from case_files import (
+    CASES,
+    TOP,
+    Broken,
+    content_of,
+    is_fifo,
+    output_of,
+    read_cases,
+    shown,
+    tables_of,
+    wanted_of,
 )
+
+SECONDS = 60
 OF_POINTS = {"caps", "brakes", "envelope"}
-
-
-class Broken(Exception):
-    """A case that can't be read."""
-
-
-def is_fifo(given):
-    """Whether a file of a case is a FIFO."""
-    return not isinstance(given, str) and "fifo" in given
-
-
-def numbered(text, number):
-    """A text with a number in place of `%i`, and the next in place of `%n`."""
-    return text.replace("%i", str(number)).replace("%n", str(number + 1))
-
-
-def content_of(given):
-    """The bytes of a file of a case."""
-    if isinstance(given, str):
-        return given.encode()
-    if given.keys() not in CONTENTS:
-        raise Broken(f"a file is said by {sorted(given)}")
-    if "parts" in given:
-        return b"".join(map(content_of, given["parts"]))
-    if "times" in given:
-        return given["text"].encode() * given["times"]
-    if "count" in given:
-        return "".join(numbered(given["text"], number) for number in range(given["count"])).encode()
-    if "hex" in given:
-        return bytes.fromhex(given["hex"])
-    if "path" in given:
-        return (TOP / given["path"]).read_bytes()
-    if "text" in given:
-        return given["text"].encode().ljust(given["size"], b"\n")
-    return bytes(given["size"])
-
-
-def output_of(case):
-    """The output that a case wants."""
-    if "spans" not in case:
-        return case["output"].encode()
-    lines = (
-        f"{point} {text}\n"
-        for first, last, text in case["spans"]
-        for point in range(first, last + 1)
-    )
-    return (case.get("head", "") + "".join(lines)).encode()
 
 
 def are_points(lines):
@@ -151,124 +69,6 @@ def is_wanted(case, output):
     return text.startswith(case.get("begins", "")) and has and of_points
 
 
-def demand(is_so, text):
-    """Goes on where something is so of a case; it is broken elsewhere."""
-    if not is_so:
-        raise Broken(text)
-
-
-def checked(case):
-    """The case, where it has known keys alone and says its output in one way."""
-    ways = case.keys() - KEYS
-    demand({"name", "words"} <= case.keys(), "it has no name or no words")
-    demand(ways in WAYS, f"it says its output by {sorted(ways)}")
-    demand(all(case[way] for way in ways - {"output"}), "it says nothing of its output")
-    demand(case.get("skip", "so"), "it is skipped without a reason")
-    demand("head" not in case or "spans" in ways, "it has a head without spans")
-    return case
-
-
-def with_files_used(cases):
-    """The cases of a table, where each file is named by a word of one of them, or is `beside`."""
-    words = [word for case in cases for word in case["words"]]
-    for case in cases:
-        files, beside = case.get("files", {}).keys(), set(case.get("beside", []))
-        unnamed = {name for name in files if name not in words}
-        said = f"no word names {sorted(unnamed)}, and {sorted(beside)} are said so"
-        demand(unnamed == beside, said)
-    return cases
-
-
-def wanted_of(case):
-    """The output that a case wants, as a failed case shows it."""
-    if "begins" not in case and "has" not in case:
-        return shown(output_of(case))
-    return f"{case.get('begins', '')!r} .. {case.get('has', [])!r}"
-
-
-def lines_of(records):
-    """The text of records that are parted by ` / `."""
-    return "".join(f"{record}\n" for record in records.split(" / ")) if records else ""
-
-
-def key_of(line):
-    """The key of a line `KEY = ..`."""
-    return line.split("=")[0].strip()
-
-
-def changed(base, records):
-    """The text `base`, changed by the records of a row."""
-    lines = {key_of(line): line for line in base.splitlines()}
-    for record in records.split(" / "):
-        if record.startswith("no "):
-            del lines[record.removeprefix("no ")]
-        elif record:
-            lines[key_of(record)] = record
-    return "".join(f"{line}\n" for line in lines.values())
-
-
-def case_of(table, content, output, status):
-    """The case of a row of a table."""
-    text = changed(table["base"], content) if "base" in table else lines_of(content)
-    return {
-        "name": f"{table['name']}: {content}",
-        "words": table["words"],
-        "files": {**table.get("files", {}), table["file"]: text},
-        table.get("wants", "output"): lines_of(output),
-        "status": status,
-    }
-
-
-def rows_of(table):
-    """The cases of a table `[[table]]`, one for each row."""
-    demand(table.keys() <= TABLE_KEYS, f"it has the keys {sorted(table.keys() - TABLE_KEYS)}")
-    demand(table.get("wants", "output") in ("output", "begins"), "it wants what isn't known")
-    return [case_of(table, *row) for row in table["rows"]]
-
-
-def cases_in(kind, table):
-    """The cases of a table of a file: its own, or one for each row."""
-    if kind == "case":
-        return [table]
-    if kind == "table":
-        return rows_of(table)
-    given = {key: value for key, value in table.items() if key != "rows"}
-    return [{**given, "name": f"{table['name']}: {row}", "words": row} for row in table["rows"]]
-
-
-def try_reading(case):
-    """Reads the files and the output that a case says, as running it does."""
-    for given in case.get("files", {}).values():
-        if not is_fifo(given):
-            content_of(given)
-    wanted_of(case)
-
-
-def read_cases(kind, table):
-    """The cases of a table; it is broken where one of them can't be read, whatever the reason."""
-    try:
-        cases = [checked(case) for case in cases_in(kind, table)]
-        demand(cases, "it has no rows")
-        for case in cases:
-            try_reading(case)
-        return with_files_used(cases)
-    except (AttributeError, KeyError, OSError, TypeError, ValueError) as error:
-        raise Broken(f"{type(error).__name__}: {error}") from error
-
-
-def tables_of(path):
-    """The tables of a file of cases, each with its kind."""
-    try:
-        tables = tomllib.loads(path.read_text())
-    except (OSError, ValueError) as error:
-        raise Broken(str(error)) from error
-    demand(path.suffix == ".toml", "it is no file of cases")
-    demand(tables.keys() <= TABLES, f"it has {sorted(tables.keys() - TABLES)}")
-    found = [(kind, table) for kind, listed in tables.items() for table in listed]
-    demand(found, "it has no case")
-    return found
-
-
 def lay(path, given):
     """Lays a file of a case where the program finds it."""
     if not is_fifo(given):
@@ -278,16 +78,10 @@ def lay(path, given):
     threading.Thread(target=path.write_text, args=(given["fifo"],), daemon=True).start()
 
 
-def ended(words, folder, stdin, seconds, stdout):
-    """The status, output and standard error of a command; it is ended where it goes on too long."""
-    how = {"stdin": subprocess.PIPE, "stdout": stdout, "stderr": subprocess.PIPE}
-    process = subprocess.Popen(words, cwd=folder, start_new_session=True, **how)
-    try:
-        output, errors = process.communicate(stdin, timeout=seconds)
-    except subprocess.TimeoutExpired:
-        os.killpg(process.pid, signal.SIGKILL)
-        return f"ended after {seconds} s", *process.communicate()
-    return process.returncode, output, errors
+def redirected(stdin, stdout):
+    """How a shell has the input come from a place and the output go to one."""
+    ways = zip("<>", (stdin, stdout))
+    return " ".join(f"{way}{'&-' if place == 'closed' else place}" for way, place in ways if place)
 
 
 def run(case, folder):
@@ -295,19 +89,14 @@ def run(case, folder):
     for name, given in case.get("files", {}).items():
         lay(folder / name, given)
     words = [str(TOP / "rtime"), *(content_of(word) for word in case["words"])]
-    given = case.get("input", "").encode(), case.get("seconds", SECONDS)
-    place = case.get("stdout")
-    if place is None:
-        return ended(words, folder, *given, subprocess.PIPE)
-    to = ">&-" if place == "closed" else f">{place}"
-    shell = ["bash", "-c", f'exec "$@" {to}', "bash"]
-    status, _, errors = ended([*shell, *words], folder, *given, None)
-    return status, b"", errors
-
-
-def shown(text):
-    """A text as a failed case shows it."""
-    return repr(text if len(text) <= 400 else text[:400] + b"..")
+    given, seconds = content_of(case.get("input", "")), case.get("seconds", SECONDS)
+    pieces = pipes.pieces_of(given, case.get("piece", max(len(given), 1)))
+    places = case.get("stdin"), case.get("stdout")
+    if any(places):
+        words = ["bash", "-c", f'exec "$@" {redirected(*places)}', "bash", *words]
+    taken = subprocess.PIPE if places[1] is None else None
+    status, output, errors = pipes.ended(words, folder, pieces, seconds, taken)
+    return status, output or b"", errors
 
 
 def result_of(case):
@@ -359,6 +148,7 @@ def case_results():
 PARTS = {
     "cases": case_results,
     "compare": compare.comparisons,
+    "sessions": sessions.results,
     "certificates": certificates.results,
     "kept": kept.results,
     "runner": runner.results,
@@ -366,6 +156,7 @@ PARTS = {
     "documents": documents.results,
     "mistakes": mistakes.results,
 }
+SLOW = {"memory": memory.results}
 
 
 def results(parts):
@@ -374,13 +165,16 @@ def results(parts):
         yield "the program is built from the sources", False, f"  {older}\n"
         return
     for part in parts:
-        yield from PARTS[part]()
+        yield from (PARTS | SLOW)[part]()
 
 
 def main(parts):
-    if unknown := set(parts) - PARTS.keys():
-        sys.exit(f"no parts of the tests are {sorted(unknown)}; these are: {', '.join(PARTS)}")
-    return 0 if compare.report(results(parts or PARTS)) else 1
+    every = PARTS | SLOW
+    named = [part for part in parts if part != "--slow"]
+    if unknown := set(named) - every.keys():
+        sys.exit(f"no parts of the tests are {sorted(unknown)}; these are: {', '.join(every)}")
+    slow = SLOW if len(named) < len(parts) else {}
+    return 0 if compare.report(results([*(named or PARTS), *slow])) else 1
 
 
 if __name__ == "__main__":

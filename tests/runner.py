@@ -1,9 +1,10 @@
-"""Tries run.py and documents.py by cases and documents that are broken, which they have to fail.
+"""Tries run.py, pipes.py, memory.py and documents.py by what is broken, which they have to fail.
 
 `tests/run.py runner` runs these tests alone. Cases are tried in a small repository, whose program prints
 the words that it is given, one a line, and does more where the first is one of those of PROGRAM.
 """
 
+import io
 import os
 import pathlib
 import re
@@ -15,6 +16,8 @@ from collections import Counter
 
 import compare
 import documents
+import memory
+import pipes
 
 PROGRAM = """#!/usr/bin/env bash
 printf '%s\\n' "$@"
@@ -23,6 +26,7 @@ cut) printf end ;;
 fails) exit 7 ;;
 warns) echo oops >&2 ;;
 hangs) sleep 100 ;;
+reads) cat 2>/dev/null ;;
 esac
 """
 GOOD = """
@@ -41,6 +45,11 @@ def case(text, name="broken", words='["a"]'):
 def table(text):
     """The text of a table of line files, of which more lines are given."""
     return f'[[table]]\nname = "broken"\nwords = ["line.csv"]\nfile = "line.csv"\n{text}\n'
+
+
+def spoken(text):
+    """The text of a table of inputs, of which more lines are given."""
+    return f'[[table]]\nname = "broken"\nwords = ["reads"]\n{text}\n'
 
 
 def words(text):
@@ -113,6 +122,25 @@ CASES = [
     (case('stdout = "/dev/null"\noutput = ""', words='["warns"]'), 0, 1, "errors b'oops\\n'"),
     (case('output = "hangs\\n"\nseconds = 1', words='["hangs"]'), 0, 1, "status ended after 1 s"),
     (case('output = ""\nstdout = "/dev/null"\nseconds = 1', words='["hangs"]'), 0, 1, "after 1 s"),
+    # inputs
+    (case('input = "b\\n"\noutput = "reads\\nb\\n"', words='["reads"]'), 1, 0, ""),
+    (case('input = "b\\n"\noutput = "reads\\nc\\n"', words='["reads"]'), 0, 1, "wanted b'reads\\nc\\n'"),
+    (case('input = "b"\npiece = 1\noutput = "reads\\nb"', words='["reads"]'), 1, 0, ""),
+    (case('input = "bc"\npiece = 1\noutput = "reads\\nb"', words='["reads"]'), 0, 1, "reads\\nbc"),
+    (case('input = { text = "%i%n ", count = 2, first = 5 }\nhas = ["56 67 "]', words='["reads"]'), 0, 1, "56 67 "),
+    (case('input = { text = "%i%n\\n", count = 2, first = 5 }\nhas = ["56", "67"]', words='["reads"]'), 1, 0, ""),
+    (case(RIGHT + '\ninput = { txt = "b" }'), 0, 1, "a file is said by ['txt']"),
+    (case(RIGHT + '\ninput = ""\nstdin = "."'), 0, 1, "it has an input and a place of it"),
+    (case(RIGHT + "\npiece = 1"), 0, 1, "it has pieces of no input"),
+    (case('stdin = "."\noutput = "reads\\n"\nstatus = 1', words='["reads"]'), 1, 0, ""),
+    (case('stdin = "closed"\noutput = "reads\\n"\nstatus = 1', words='["reads"]'), 1, 0, ""),
+    (case('stdin = "closed"\noutput = "reads\\n"', words='["reads"]'), 0, 1, "status 1, wanted 0"),
+    (case('stdin = "/dev/null"\nstdout = "/dev/null"\noutput = ""', words='["reads"]'), 1, 0, ""),
+    (case('output = { text = "b\\n", times = 2 }', words='["b", "b"]'), 1, 0, ""),
+    (case('output = { text = "b\\n", times = 3 }', words='["b", "b"]'), 0, 1, "wanted b'b\\nb\\nb\\n'"),
+    (spoken('rows = [["b / c", "reads / b / c", 0]]'), 1, 0, ""),
+    (spoken('rows = [["b / c", "reads / b", 0]]'), 0, 1, "reads\\nb\\nc\\n"),
+    (spoken('rows = [[{ parts = ["b"] }, { parts = ["reads\\nb"] }, 0]]'), 1, 0, ""),
     # what is skipped
     (case(RIGHT + '\nskip = "not now"'), 0, 0, "SKIPPED"),
     (case(RIGHT + '\nskip = ""'), 0, 1, "it is skipped without a reason"),
@@ -240,6 +268,59 @@ def case_results():
         yield f"runner: {text}", is_so, f"  told {of_file}\n{wanted}"
 
 
+class Recorder(io.RawIOBase):
+    """A pipe that keeps what each write gives it, and is broken after so many writes."""
+
+    def __init__(self, most):
+        super().__init__()
+        self.most, self.pieces = most, []
+
+    def writable(self):
+        return True
+
+    def write(self, piece):
+        if len(self.pieces) == self.most:
+            raise BrokenPipeError
+        self.pieces.append(bytes(piece))
+        return len(piece)
+
+
+def piece_results():
+    """Tries how an input is written in pieces, also into a pipe that breaks."""
+    for size, most, wanted in [(1, 9, [b"a", b"b", b"c"]), (2, 9, [b"ab", b"c"]), (1, 2, [b"a", b"b"])]:
+        pipe = Recorder(most)
+        pipes.feed(io.BufferedWriter(pipe), pipes.pieces_of(b"abc", size))
+        name = f"pieces of {size}, of which {most} are taken"
+        yield name, pipe.pieces == wanted and pipe.closed, f"  {pipe.pieces}, wanted {wanted}\n"
+
+
+# What a program does where memory is refused, what may stand written then, and whether memory.py passes it.
+REFUSALS = [
+    ("right", None, True),
+    ("right", ("", "a\n"), True),
+    ("right", ("",), False),
+    ("wrong", None, False),
+    ("silent", None, False),
+    ("rash", None, False),
+    ("none", None, False),
+]
+
+
+def memory_results():
+    """Tries how memory is refused to the program of memory/tries.c."""
+    if not shutil.which("cc"):
+        yield "programs to which memory is refused", None, "a compiler of C isn't there"
+        return
+    with tempfile.TemporaryDirectory() as given:
+        program = pathlib.Path(given) / "tries"
+        source = compare.TOP / "tests" / "memory" / "tries.c"
+        subprocess.run(["cc", "-o", program, source], check=True)
+        for does, fronts, wanted in REFUSALS:
+            case = memory.Case(does, "a\nb\n", fronts=fronts)
+            found = [passed for _, passed, _ in memory.results(program, [case])]
+            yield f"memory is refused: {does}, {fronts}", found == [wanted], f"  {found}\n"
+
+
 def make_older(folder):
     """Makes a source newer than the program."""
     built = (folder / "crates" / "rtime" / "out" / "rtime").stat().st_mtime
@@ -304,5 +385,7 @@ def document_results():
 def results():
     """The results of all tries."""
     yield from case_results()
+    yield from piece_results()
+    yield from memory_results()
     yield from change_results()
     yield from document_results()
