@@ -191,10 +191,10 @@ class Measured:
     memory: int | None  # the greatest resident memory in KiB, where the system tells it
 
 
-def cpu_seconds(words: Sequence[str]) -> float:
-    """User and system time of one run whose output is thrown away, in seconds."""
-    thrown = [(os.POSIX_SPAWN_OPEN, 1, os.devnull, os.O_WRONLY, 0)]
-    usage = os.wait4(os.posix_spawn(words[0], words, os.environ, file_actions=thrown), 0)[2]
+def cpu_seconds(words: Sequence[str], given: str = os.devnull) -> float:
+    """User and system time of one run over a file as its input, whose output is thrown away, in seconds."""
+    places = [(os.POSIX_SPAWN_OPEN, 0, given, os.O_RDONLY, 0), (os.POSIX_SPAWN_OPEN, 1, os.devnull, os.O_WRONLY, 0)]
+    usage = os.wait4(os.posix_spawn(words[0], words, os.environ, file_actions=places), 0)[2]
     return usage.ru_utime + usage.ru_stime
 
 
