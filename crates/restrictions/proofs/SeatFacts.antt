@@ -14,8 +14,7 @@ use Rattle.std.specs.Option.{option_map}
 use Rattle.std.specs.Ordering.{is_eq, is_lt, nat_cmp, ordering_index}
 use Rattle.std.specs.declared.cmp.Ordering.TheVariants.{Equal, Greater, Less}
 use Rattle.std.specs.Str.{bytes_eq}
-use Rattle.restrictions.specs.Seats.{IsInOrder, closed_up, moved_up, place_of}
-use Rattle.restrictions.specs.declared.seats.Seat.{Seat}
+use Rattle.restrictions.specs.Seats.{IsInOrder, Seat, closed_up, moved_up, place_of}
 use Rattle.restrictions.proofs.FindFacts.{about, find-at, find-none, find-none_append, find-none_front, find-skip}
 
 -- the order of IDs, by their bytes

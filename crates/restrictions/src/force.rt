@@ -5,7 +5,7 @@ ghost use Rattle.restrictions.specs.Edits.{code_of_edit};
 ghost use Rattle.restrictions.specs.Force.{IsForce, ForceView, put_in, without, zone_of, zones_of};
 
 use crate::ids::Id;
-use crate::seats::{Seat, close_up, find_seat};
+use crate::seats::{close_up, find_seat};
 use std::alloc::Global;
 use std::marker::Model;
 use unit_rules::{Memory, Zone};
@@ -46,8 +46,8 @@ pub struct InForce {
     pairs: Vec<(Id, Zone)>,
     // How many more can be put with no more memory.
     spare: usize,
-    // Where the restriction of each ID stands, in the order of their bytes.
-    seats: Vec<Seat>,
+    // The places of all pairs, in the order of the bytes of their IDs.
+    seats: Vec<u32>,
 }
 
 impl Model for InForce {
@@ -119,8 +119,8 @@ impl InForce {
         ensures zone { result ≡ zone_of id self.now.pairs }
         ensures force { IsForce self.now }
     {
-        match find_seat(&self.seats, id) {
-            Ok(seat) => Some(self.pairs[self.seats[seat].place as usize].1),
+        match find_seat(&self.seats, &self.pairs, id) {
+            Ok(seat) => Some(self.pairs[self.seats[seat] as usize].1),
             Err(_) => None,
         }
     }
@@ -157,7 +157,7 @@ impl InForce {
         ensures room { 1 ≤ self.old.spare → result ≡ Err EditFault.Memory → ⊥ }
         ensures force { IsForce self.new }
     {
-        let Err(seat) = find_seat(&self.seats, id) else {
+        let Err(seat) = find_seat(&self.seats, &self.pairs, id) else {
             return Err(EditFault::Present);
         };
         if self.pairs.len() >= MOST_IN_FORCE {
@@ -167,7 +167,7 @@ impl InForce {
         let Ok(()) = self.pairs.reserve(1) else {
             return Err(EditFault::Memory);
         };
-        let Ok(()) = self.seats.insert(seat, Seat { id, place }) else {
+        let Ok(()) = self.seats.insert(seat, place) else {
             return Err(EditFault::Memory);
         };
         self.pairs.push_reserved((id, zone));
@@ -188,10 +188,10 @@ impl InForce {
         ensures kept { OnErr result (self.new ≡ self.old) }
         ensures force { IsForce self.new }
     {
-        let Ok(seat) = find_seat(&self.seats, id) else {
+        let Ok(seat) = find_seat(&self.seats, &self.pairs, id) else {
             return Err(EditFault::Absent);
         };
-        let place = self.seats.remove(seat).place;
+        let place = self.seats.remove(seat);
         let (_id, zone) = self.pairs.remove(place as usize);
         close_up(&mut self.seats, place);
         self.spare += 1;

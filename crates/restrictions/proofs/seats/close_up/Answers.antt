@@ -1,14 +1,14 @@
-use Rattle.std.proofs.Common.{◌<◌, ap, arith, length, set, sym, ◌∙◌}
+use Rattle.std.proofs.Common.{◌<◌, ap, arith, get_or, length, set, ◌∙◌, ℕ}
+use Rattle.std.proofs.lemmas.List.{get_or_default}
 use Rattle.std.proofs.lemmas.List.Edits.{map_over_more}
-use Rattle.restrictions.specs.Seats.{moved_up}
-use Rattle.restrictions.specs.declared.seats.Seat.{Seat}
+use Rattle.restrictions.specs.Seats.{closed_up}
 use Rattle.restrictions.proofs.seats.close_up.Goals as goal
 
-pub loop-seat-preserved : goal.loop-seat-preserved
-loop-seat-preserved c =
-    let seats = c.loop-seat.seats in
-    let at = c.loop-seat.seat-index in
-    let seat = c.seat-item.result in
+pub loop-place-preserved : goal.loop-place-preserved
+loop-place-preserved c =
+    let seats = c.loop-place.seats in
+    let at = c.loop-place.place-index in
+    let place = get_or seats at 0 in
     let within : at < length c.args.seats.now = omega arith in
-    let moved = c.moved_up.ensures ∙ ap (moved_up c.args.left) (sym c.seat-item.is) in
-    ap (λ (s : Seat). set seats at s) moved ∙ map_over_more (moved_up c.args.left) c.args.seats.now seats at seat within c.loop-seat.invariant c.seat-item.is
+    let here = get_or_default seats at 0 place (omega (arith, c.loop-place.auto.seats)) in
+    ap (λ (p : ℕ). set seats at p) c.closed_up.ensures ∙ map_over_more (closed_up c.args.left) c.args.seats.now seats at place within c.loop-place.invariant here
