@@ -26,12 +26,12 @@ use Rattle.session_replies.specs.CaseLaws.{IsRunOf-right, length-caps_under}
 use Rattle.run_cli.specs.Check.{IsChecked, found_status, found_text}
 use Rattle.run_cli.specs.Envelope.{envelope_status}
 use Rattle.session_replies.specs.Cases.{CaseView, caps_of, case_of, rule_of}
+use Rattle.run_files.specs.Files.{cert_reading, table_in}
+use Rattle.run_files.specs.declared.status.Status.{Status}
+use Rattle.run_files.specs.declared.status.Status.TheVariants.{Done}
 use Rattle.run_cli.specs.FileForms.{ByCase, ByCert, ByEdits, CaseAnswer}
-use Rattle.run_cli.specs.Files.{cert_reading, table_in}
 use Rattle.run_cli.specs.Laws.{IsValidThere, LeavesInForce, PrintedAreValid, ReadAs, RepliedAreValid}
 use Rattle.run_cli.specs.Plan.{ShowsCertificate}
-use Rattle.run_cli.specs.declared.status.Status.{Status}
-use Rattle.run_cli.specs.declared.status.Status.TheVariants.{Done}
 
 -- the braking list and the speeds of a run, and its reach, are the certificate of a case
 pub driven-certificate : (line : LineView) (stock : StockView) (plan : PlanView) (force : List (List ℕ × Zone)) (c e : List ℕ) (reach : Reach) → stock.top ≤ greatest_speed → line.length ≤ longest_line

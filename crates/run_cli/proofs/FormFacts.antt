@@ -4,8 +4,8 @@ use Rattle.plan_tables.specs.Plan.{empty_plan}
 use Rattle.run_io.specs.Fetches.{Files}
 use Rattle.run_words.specs.Requests.{Request, case_names, request_of}
 use Rattle.run_words.specs.Requests.Request.{Caps, Stock, Rise, Brakes, Envelope, Plan, Check, Session}
+use Rattle.run_files.specs.Files.{refusal}
 use Rattle.run_cli.specs.FileLaws.{alone}
-use Rattle.run_cli.specs.Files.{refusal}
 use Rattle.run_cli.specs.Forms.{WordsAnswerOnce, meaning_of, meant_by}
 use Rattle.run_cli.specs.Meanings.{IsOnce, IsSilent, Meaning}
 use Rattle.run_cli.proofs.OnceFacts.{AnswersBy-once, ByBoth-once, ByCase-once, ByClaim-once, ByLine-once, ByStock-once, Is-once, IsBrakes-once, IsChecked-once, IsEnvelope-once, RepliesTo-once, plan_answer-once}

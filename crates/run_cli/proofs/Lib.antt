@@ -1,5 +1,4 @@
 pub mod ServeFacts
-pub mod LoadFacts
 pub mod OnceFacts
 pub mod CertFacts
 pub mod SessionFacts

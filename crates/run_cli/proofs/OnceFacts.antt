@@ -26,17 +26,17 @@ use Rattle.session_replies.specs.Asked.{Asked, case_after}
 use Rattle.session_replies.specs.Cases.{CaseView, caps_of, case_of, rule_of}
 use Rattle.session_replies.specs.Replies.{reply_text, talk}
 use Rattle.unit_rules.specs.Limits.{most_bytes}
+use Rattle.run_files.specs.Files.{cert_reading, edits_reading, line_reading, plan_reading, stock_reading, table_in}
 use Rattle.run_cli.specs.Check.{IsChecked}
 use Rattle.run_cli.specs.FileForms.{ByBoth, ByCase, ByCert, ByClaim, ByEdits, CaseAnswer, ClaimAnswer, ByLine, ByPlan, ByStock}
-use Rattle.run_cli.specs.Files.{cert_reading, edits_reading, line_reading, plan_reading, stock_reading, table_in}
 use Rattle.run_cli.specs.Plan.{IsTimetable, ShowsCertificate, plan_answer}
 use Rattle.run_words.specs.declared.requests.Print.{Print}
 use Rattle.run_words.specs.declared.requests.Print.TheVariants as print
+use Rattle.run_files.specs.Statuses.{input_number, status_text}
+use Rattle.run_files.specs.declared.status.Status.{Status}
+use Rattle.run_files.specs.declared.status.Status.TheVariants.{Done, NotValid, Stalled, TooLong}
 use Rattle.run_cli.specs.Meanings.{Answer, AnswersBy, Is, IsOnce}
 use Rattle.run_cli.specs.Session.{RepliesTo}
-use Rattle.run_cli.specs.Statuses.{input_number, status_text}
-use Rattle.run_cli.specs.declared.status.Status.{Status}
-use Rattle.run_cli.specs.declared.status.Status.TheVariants.{Done, NotValid, Stalled, TooLong}
 
 pub Is-once : (status : Status) (text : List ℕ) → IsOnce (Is status text)
 Is-once status text s r t u a b = record { one_status = a.status_is ∙ sym b.status_is; one_text = a.text_is ∙ sym b.text_is }

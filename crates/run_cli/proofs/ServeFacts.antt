@@ -4,26 +4,19 @@ use Rattle.std.proofs.lemmas.Grind.{common_steps}
 use Rattle.std.specs.Io.KnownBytes.{Consumes}
 use Rattle.run_io.specs.Fetches.{Files}
 use Rattle.run_io.specs.Told.{IsQuiet, Rose, Told, Writes, WritesFront}
+use Rattle.run_files.specs.Files.{Blames, BlamesFile, File, refusal}
+use Rattle.run_files.specs.Loads.{IsReason, IsRefused, Loads}
+use Rattle.run_files.specs.Statuses.{extent_of, status_text}
+use Rattle.run_files.specs.Statuses.Extent.{whole, stopped, cut}
+use Rattle.run_files.specs.declared.status.Status.{Status}
+use Rattle.run_files.specs.declared.status.Status.TheVariants.{Done, Memory, Usage, ReadFault, WriteFault, Refused, TooLong}
+use Rattle.run_files.proofs.ToldFacts.{IfSome-along, IfSome-both}
 use Rattle.run_cli.specs.Ends.{AllQuiet, EndsBy, EndsShort, EndsStopped, EndsWhole, Outside, TakesBy, TakesSteps, WhereTold, input_of, outside}
-use Rattle.run_cli.specs.Files.{Blames, BlamesFile, File, refusal}
 use Rattle.run_cli.specs.FileForms.{no_form}
-use Rattle.run_cli.specs.Loads.{IsReason, IsRefused, Loads}
 use Rattle.run_cli.specs.Meanings.{Answers, IsFileForm, IsSilent, Meaning}
 use Rattle.run_cli.specs.Serves.{Finishes, IsMeant, Serves, WorkEnds, Works}
-use Rattle.run_cli.specs.Statuses.{extent_of, status_text}
-use Rattle.run_cli.specs.Statuses.Extent.{whole, stopped, cut}
-use Rattle.run_cli.specs.declared.status.Status.{Status}
-use Rattle.run_cli.specs.declared.status.Status.TheVariants.{Done, Memory, Usage, ReadFault, WriteFault, Refused, TooLong}
 
--- along what is told
-pub IfSome-along : {A : Type 0} (o : Option A) (P Q : A → Type 0) → ((a : A) → P a → Q a) → IfSome o P → IfSome o Q
-IfSome-along None P Q f h = tt
-IfSome-along (Some a) P Q f h = f a h
-
-pub IfSome-both : {A : Type 0} (o : Option A) (P Q R : A → Type 0) → ((a : A) → P a → Q a → R a) → IfSome o P → IfSome o Q → IfSome o R
-IfSome-both None P Q R f h k = tt
-IfSome-both (Some a) P Q R f h k = f a h k
-
+-- what holds of all holds of what is told
 pub IfSome-all : {A : Type 0} (o : Option A) (P : A → Type 0) → ((a : A) → P a) → IfSome o P
 IfSome-all None P f = tt
 IfSome-all (Some a) P f = f a

@@ -20,19 +20,20 @@ use Rattle.session_replies.specs.Cases.{CaseView, case_of}
 use Rattle.session_replies.specs.Replies.{talk}
 use Rattle.stock_tables.specs.Stock.{StockView}
 use Rattle.unit_rules.specs.Limits.{most_bytes}
+use Rattle.run_files.specs.Files.{Blames, IsCase, case_files, line_reading, plan_reading, refusal, stock_reading, table_in}
+use Rattle.run_files.specs.Loads.{Loads}
+use Rattle.run_files.specs.Statuses.Extent.{whole, stopped}
+use Rattle.run_files.specs.Statuses.{extent_of, input_number, status_text}
+use Rattle.run_files.specs.declared.cases.Case.{Case}
+use Rattle.run_files.specs.declared.status.Status.{Status}
+use Rattle.run_files.specs.declared.status.Status.TheVariants.{Done, Memory, ReadFault, TooLong, WriteFault}
+use Rattle.run_files.proofs.ToldFacts.{IfSome-along, IfSome-both}
 use Rattle.run_cli.specs.Ends.{AllQuiet, EndsShort, EndsWhole, outside}
 use Rattle.run_cli.specs.FileForms.{ByCase, CaseAnswer}
-use Rattle.run_cli.specs.Files.{Blames, IsCase, case_files, line_reading, plan_reading, refusal, stock_reading, table_in}
-use Rattle.run_cli.specs.Loads.{Loads}
 use Rattle.run_cli.specs.Meanings.{Answers, IsSilent, Meaning}
 use Rattle.run_cli.specs.Serves.{Closes, Holds, Serves}
 use Rattle.run_cli.specs.Session.{RepliesTo, StandsReplied, session_meaning}
-use Rattle.run_cli.specs.Statuses.Extent.{whole, stopped}
-use Rattle.run_cli.specs.Statuses.{extent_of, input_number, status_text}
-use Rattle.run_cli.specs.declared.cases.Case.{Case}
-use Rattle.run_cli.specs.declared.status.Status.{Status}
-use Rattle.run_cli.specs.declared.status.Status.TheVariants.{Done, Memory, ReadFault, TooLong, WriteFault}
-use Rattle.run_cli.proofs.ServeFacts.{Answers-accepted, Consumes-none, EndsBy-whole, IfSome-all, IfSome-along, IfSome-both, IsQuiet-Rose}
+use Rattle.run_cli.proofs.ServeFacts.{Answers-accepted, Consumes-none, EndsBy-whole, IfSome-all, IsQuiet-Rose}
 
 -- the files of a session hold a case, in which nothing is in force
 record IsAt (names : CaseNames) (files : Files) (line : LineView) (stock : StockView) (plan : PlanView) : Type 0 where

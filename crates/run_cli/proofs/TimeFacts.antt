@@ -11,10 +11,10 @@ use Rattle.unit_rules.specs.Limits.{greatest_speed}
 use Rattle.unit_rules.specs.declared.Reach.{Reach}
 use Rattle.unit_rules.specs.declared.Reach.TheVariants as reach
 use Rattle.session_replies.specs.CaseLaws.{length-caps_under, soonest}
+use Rattle.run_files.specs.declared.status.Status.TheVariants.{Stalled}
 use Rattle.run_cli.specs.Plan.{IsTimed, IsTimetable, found_status, found_text}
 use Rattle.run_cli.specs.declared.report.PlanReport.{PlanReport}
 use Rattle.run_cli.specs.declared.report.PlanReport.TheVariants.{Cert, Speeds, Stall, Times}
-use Rattle.run_cli.specs.declared.status.Status.TheVariants.{Stalled}
 
 -- an envelope that is stalled answers as a stall
 stalled : (e : EnvelopeView) (r : Reach) (k : ℕ) → e.stock.top ≤ greatest_speed → r ≡ reach.Stalled k → ReachesAs (rule_in e) (caps_in e) e.speeds r

@@ -10,14 +10,14 @@ use Rattle.run_io.specs.Fetches.{Files}
 use Rattle.run_rules.specs.Runs.{IsBrakingList}
 use Rattle.run_words.specs.declared.requests.BrakesForm.{BrakesForm}
 use Rattle.stock_tables.specs.Stock.{StockView}
+use Rattle.run_files.specs.Files.{AreTables}
+use Rattle.run_files.specs.declared.status.Status.TheVariants.{Done}
+use Rattle.run_files.specs.declared.status.Status.{Status}
 use Rattle.run_cli.specs.FileForms.{IsDone, train_form}
 use Rattle.run_cli.specs.FileLaws.{is_done, cells_allow, train_meant}
-use Rattle.run_cli.specs.Files.{AreTables}
 use Rattle.run_cli.specs.Meanings.{Is, Meaning}
 use Rattle.run_cli.specs.Serves.{IsMeant}
 use Rattle.run_cli.specs.declared.report.ListReport.{ListReport}
-use Rattle.run_cli.specs.declared.status.Status.TheVariants.{Done}
-use Rattle.run_cli.specs.declared.status.Status.{Status}
 
 -- the braking list of the train on the line, where it stands at both ends
 pub record IsBrakes (line : LineView) (stock : StockView) (s : Status) (t : List ℕ) : Type 0 where

@@ -6,13 +6,13 @@ use Rattle.report_text.specs.Texts.{list_text}
 use Rattle.run_io.specs.Fetches.{Files}
 use Rattle.run_rules.specs.Caps.{caps_of}
 use Rattle.run_words.specs.declared.requests.CapsForm.{CapsForm}
+use Rattle.run_files.specs.Files.{IsRead, line_reading}
+use Rattle.run_files.specs.declared.status.Status.TheVariants.{Done}
 use Rattle.run_cli.specs.FileForms.{line_form}
 use Rattle.run_cli.specs.FileLaws.{is_done, line_meant}
-use Rattle.run_cli.specs.Files.{IsRead, line_reading}
 use Rattle.run_cli.specs.Meanings.{Is, Meaning}
 use Rattle.run_cli.specs.Serves.{IsMeant}
 use Rattle.run_cli.specs.declared.report.ListReport.{ListReport}
-use Rattle.run_cli.specs.declared.status.Status.TheVariants.{Done}
 
 -- the caps of a line by its limits and a train's length and top speed alone, a line for each point
 abbrev pub caps_text : LineView → ℕ → ℕ → List ℕ

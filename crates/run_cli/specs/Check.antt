@@ -17,17 +17,17 @@ use Rattle.run_words.specs.declared.requests.CheckForm.{CheckForm}
 use Rattle.stock_tables.specs.Stock.{StockView}
 use Rattle.unit_rules.specs.declared.Reach.{Reach}
 use Rattle.unit_rules.specs.declared.Zone.{Zone}
+use Rattle.run_files.specs.Files.{IsClaim, most_cells}
+use Rattle.run_files.specs.Statuses.Extent.{whole}
+use Rattle.run_files.specs.Statuses.{extent_of, status_text}
+use Rattle.run_files.specs.declared.cases.Claim.{Claim}
+use Rattle.run_files.specs.declared.status.Status.TheVariants.{Done, NotValid}
+use Rattle.run_files.specs.declared.status.Status.{Status}
 use Rattle.run_cli.specs.FileForms.{ClaimAnswer, MayRefute, claim_form}
 use Rattle.run_cli.specs.FileLaws.{cells_allow, claim_meant}
-use Rattle.run_cli.specs.Files.{IsClaim, most_cells}
 use Rattle.run_cli.specs.Meanings.{Is, Meaning}
 use Rattle.run_cli.specs.Serves.{IsMeant}
-use Rattle.run_cli.specs.Statuses.Extent.{whole}
-use Rattle.run_cli.specs.Statuses.{extent_of, status_text}
-use Rattle.run_cli.specs.declared.cases.Claim.{Claim}
 use Rattle.run_cli.specs.declared.report.CheckReport.{CheckReport}
-use Rattle.run_cli.specs.declared.status.Status.TheVariants.{Done, NotValid}
-use Rattle.run_cli.specs.declared.status.Status.{Status}
 
 -- the certificate breaks none of the rules; so its lists are the braking list and the envelope of the train on the line by the
 -- plan, under the restrictions in force, and its verdict is right

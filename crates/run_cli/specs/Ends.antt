@@ -3,12 +3,12 @@ use Rattle.std.specs.Prelude.{ℕ, ◌≡◌, ◌≤◌, ◌+◌, ◌⊎◌, Boo
 use Rattle.std.specs.Io.KnownBytes.{Consumes, IsAtEnd}
 use Rattle.run_io.specs.Fetches.{Files}
 use Rattle.run_io.specs.Told.{IsQuiet, Rose, Told, Writes, WritesFront}
-use Rattle.run_cli.specs.Files.{Blames, refusal}
+use Rattle.run_files.specs.Files.{Blames, refusal}
+use Rattle.run_files.specs.Statuses.{Extent, extent_of}
+use Rattle.run_files.specs.Statuses.Extent.{whole, stopped, cut}
+use Rattle.run_files.specs.declared.status.Status.{Status}
+use Rattle.run_files.specs.declared.status.Status.TheVariants.{Done, Memory}
 use Rattle.run_cli.specs.Meanings.{Answer, Answers, Meaning}
-use Rattle.run_cli.specs.Statuses.{Extent, extent_of}
-use Rattle.run_cli.specs.Statuses.Extent.{whole, stopped, cut}
-use Rattle.run_cli.specs.declared.status.Status.{Status}
-use Rattle.run_cli.specs.declared.status.Status.TheVariants.{Done, Memory}
 
 -- what the shelf, the input and the output of a run tell at a time
 pub record Outside : Type 0 where

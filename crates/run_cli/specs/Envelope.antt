@@ -15,15 +15,15 @@ use Rattle.stock_tables.specs.Stock.{StockView}
 use Rattle.unit_rules.specs.declared.Reach.TheVariants as reach
 use Rattle.unit_rules.specs.declared.Reach.{Reach}
 use Rattle.unit_rules.specs.declared.Zone.{Zone}
+use Rattle.run_files.specs.Files.{AreTables}
+use Rattle.run_files.specs.Statuses.Extent.{whole}
+use Rattle.run_files.specs.Statuses.{extent_of}
+use Rattle.run_files.specs.declared.status.Status.TheVariants.{Done, Stalled}
+use Rattle.run_files.specs.declared.status.Status.{Status}
 use Rattle.run_cli.specs.FileForms.{CaseAnswer, MayStall, train_form}
 use Rattle.run_cli.specs.FileLaws.{cells_allow, train_meant}
-use Rattle.run_cli.specs.Files.{AreTables}
 use Rattle.run_cli.specs.Meanings.{Answer, Is, Meaning}
 use Rattle.run_cli.specs.Serves.{IsMeant}
-use Rattle.run_cli.specs.Statuses.Extent.{whole}
-use Rattle.run_cli.specs.Statuses.{extent_of}
-use Rattle.run_cli.specs.declared.status.Status.TheVariants.{Done, Stalled}
-use Rattle.run_cli.specs.declared.status.Status.{Status}
 
 -- the greatest run of the train on the line by the plan, under the restrictions in force
 pub record ShowsRun (line : LineView) (stock : StockView) (plan : PlanView) (force : List (List ℕ × Zone)) (s : Status) (t : List ℕ) : Type 0 where

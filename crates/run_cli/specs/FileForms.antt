@@ -7,11 +7,11 @@ use Rattle.unit_rules.specs.declared.Zone.{Zone}
 use Rattle.run_io.specs.Fetches.{Files}
 use Rattle.certificate.specs.Texts.{CertView}
 use Rattle.run_words.specs.Requests.{CaseNames}
-use Rattle.run_cli.specs.Files.{File, case_files, cert_reading, claim_files, edits_reading, line_file, line_reading, most_cells, plan_reading, stock_file, stock_reading, table_in}
+use Rattle.run_files.specs.Files.{File, case_files, cert_reading, claim_files, edits_reading, line_file, line_reading, most_cells, plan_reading, stock_file, stock_reading, table_in}
+use Rattle.run_files.specs.Statuses.{status_text}
+use Rattle.run_files.specs.declared.status.Status.{Status}
+use Rattle.run_files.specs.declared.status.Status.TheVariants.{Done, NotValid, Stalled, Usage}
 use Rattle.run_cli.specs.Meanings.{Answer, Is, Meaning}
-use Rattle.run_cli.specs.Statuses.{status_text}
-use Rattle.run_cli.specs.declared.status.Status.{Status}
-use Rattle.run_cli.specs.declared.status.Status.TheVariants.{Done, NotValid, Stalled, Usage}
 
 -- at most so many steps
 abbrev pub AtMost : (Option Files → ℕ) → Option Files → ℕ → Type 0

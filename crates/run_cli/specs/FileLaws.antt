@@ -6,16 +6,16 @@ use Rattle.run_io.specs.Fetches.{Files}
 use Rattle.stock_tables.specs.Stock.{StockView}
 use Rattle.unit_rules.specs.declared.Zone.{Zone}
 use Rattle.run_words.specs.Requests.{CaseNames}
+use Rattle.run_files.specs.Files.{AreInForce, AreTables, File, IsCase, IsClaim, IsRead, line_reading, most_cells, stock_reading}
+use Rattle.run_files.specs.Statuses.{extent_of}
+use Rattle.run_files.specs.Statuses.Extent.{whole}
+use Rattle.run_files.specs.declared.cases.Case.{Case}
+use Rattle.run_files.specs.declared.cases.Claim.{Claim}
+use Rattle.run_files.specs.declared.status.Status.{Status}
+use Rattle.run_files.specs.declared.status.Status.TheVariants.{Done}
 use Rattle.run_cli.specs.FileForms.{AtMost, ByCert, ByEdits, CaseAnswer, ClaimAnswer, case_form, claim_form, file_form, line_form, stock_form, train_form}
-use Rattle.run_cli.specs.Files.{AreInForce, AreTables, File, IsCase, IsClaim, IsRead, line_reading, most_cells, stock_reading}
 use Rattle.run_cli.specs.Meanings.{Answer, Is, IsFileForm}
 use Rattle.run_cli.specs.Serves.{IsMeant}
-use Rattle.run_cli.specs.Statuses.{extent_of}
-use Rattle.run_cli.specs.Statuses.Extent.{whole}
-use Rattle.run_cli.specs.declared.cases.Case.{Case}
-use Rattle.run_cli.specs.declared.cases.Claim.{Claim}
-use Rattle.run_cli.specs.declared.status.Status.{Status}
-use Rattle.run_cli.specs.declared.status.Status.TheVariants.{Done}
 
 -- a form that reads files alone has written nothing where it is stopped, and may do without a step
 pub alone : (reads : List File) (answers : Files → Answer) (may_end : Status → Type 0) (most : Option Files → ℕ)

@@ -10,11 +10,11 @@ use Rattle.session_replies.specs.Asked.Asked.{Certificate}
 use Rattle.session_replies.specs.Cases.{CaseView}
 use Rattle.session_replies.specs.Replies.{Replies}
 use Rattle.unit_rules.specs.declared.Zone.{Zone}
+use Rattle.run_files.specs.Files.{edits_reading, line_reading, plan_reading, stock_reading, table_in}
+use Rattle.run_files.specs.declared.status.Status.{Status}
+use Rattle.run_files.specs.declared.status.Status.TheVariants.{Done}
 use Rattle.run_cli.specs.Check.{check_meaning}
-use Rattle.run_cli.specs.Files.{edits_reading, line_reading, plan_reading, stock_reading, table_in}
 use Rattle.run_cli.specs.Plan.{plan_meaning}
-use Rattle.run_cli.specs.declared.status.Status.{Status}
-use Rattle.run_cli.specs.declared.status.Status.TheVariants.{Done}
 
 -- these restrictions are in force by a file of edits; where there is none, none are
 abbrev pub LeavesInForce : LineView → Option (List ℕ) → Files → List (List ℕ × Zone) → Type 0

@@ -1,10 +1,10 @@
 -- What a form means, and what answers it where no device fails and memory is found.
 use Rattle.std.specs.Prelude.{ℕ, ◌≡◌, Bool, false, List, [], Option, Some, None}
 use Rattle.run_io.specs.Fetches.{Files}
-use Rattle.run_cli.specs.Files.{File, refusal}
-use Rattle.run_cli.specs.Statuses.{extent_of, status_text}
-use Rattle.run_cli.specs.Statuses.Extent.{stopped}
-use Rattle.run_cli.specs.declared.status.Status.{Status}
+use Rattle.run_files.specs.Files.{File, refusal}
+use Rattle.run_files.specs.Statuses.{extent_of, status_text}
+use Rattle.run_files.specs.Statuses.Extent.{stopped}
+use Rattle.run_files.specs.declared.status.Status.{Status}
 
 -- which statuses with which texts answer
 abbrev pub Answer : Type 1

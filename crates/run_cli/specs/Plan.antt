@@ -25,19 +25,19 @@ use Rattle.stock_tables.specs.Stock.{StockView}
 use Rattle.unit_rules.specs.declared.Zone.{Zone}
 use Rattle.time_brackets.specs.Sums.{block_cells}
 use Rattle.unit_rules.specs.declared.Reach.TheVariants as reach
+use Rattle.run_files.specs.Files.{IsCase, line_reading, most_cells, plan_reading, table_in}
+use Rattle.run_files.specs.Statuses.Extent.{whole}
+use Rattle.run_files.specs.Statuses.{extent_of}
+use Rattle.run_files.specs.declared.cases.Case.{Case}
+use Rattle.run_files.specs.declared.status.Status.TheVariants.{Done, Stalled}
+use Rattle.run_files.specs.declared.status.Status.{Status}
 use Rattle.run_cli.specs.Envelope.{IsEnvelope, ShowsStall, envelope_status, envelope_status-ends, envelope_status-whole}
 use Rattle.run_cli.specs.FileForms.{CaseAnswer, MayStall, case_form}
 use Rattle.run_cli.specs.FileLaws.{case_meant, cells_allow}
-use Rattle.run_cli.specs.Files.{IsCase, line_reading, most_cells, plan_reading, table_in}
 use Rattle.run_cli.specs.Meanings.{Is, Meaning}
 use Rattle.run_cli.specs.Serves.{IsMeant}
-use Rattle.run_cli.specs.Statuses.Extent.{whole}
-use Rattle.run_cli.specs.Statuses.{extent_of}
-use Rattle.run_cli.specs.declared.cases.Case.{Case}
 use Rattle.run_cli.specs.declared.report.PlanReport.{PlanReport}
 use Rattle.run_cli.specs.declared.report.PlanReport.TheVariants.{Cert, Speeds, Stall, Times}
-use Rattle.run_cli.specs.declared.status.Status.TheVariants.{Done, Stalled}
-use Rattle.run_cli.specs.declared.status.Status.{Status}
 
 -- the timetable of the greatest run of the train on the line by the plan, under the restrictions in force
 pub record ShowsTimes (line : LineView) (stock : StockView) (plan : PlanView) (force : List (List ℕ × Zone)) (s : Status) (t : List ℕ) : Type 0 where

@@ -11,13 +11,13 @@ use Rattle.run_rules.specs.Speeds.{squared}
 use Rattle.run_words.specs.declared.requests.RiseForm.{RiseForm}
 use Rattle.step_rule.specs.Motion.{cells_of, step_rule_of}
 use Rattle.stock_tables.specs.Stock.{StockView}
+use Rattle.run_files.specs.Files.{AreTables}
+use Rattle.run_files.specs.declared.status.Status.TheVariants.{Done}
 use Rattle.run_cli.specs.FileForms.{IsDone, train_form}
 use Rattle.run_cli.specs.FileLaws.{is_done, cells_allow, train_meant}
-use Rattle.run_cli.specs.Files.{AreTables}
 use Rattle.run_cli.specs.Meanings.{Is, Meaning}
 use Rattle.run_cli.specs.Serves.{IsMeant}
 use Rattle.run_cli.specs.declared.rise_report.RiseReport.{RiseReport}
-use Rattle.run_cli.specs.declared.status.Status.TheVariants.{Done}
 
 -- a cell, the pull there, and the greatest and the least squared speed after it from a squared speed before it
 abbrev pub rise_line : StepRule → List ℤ → ℕ → ℕ → List ℕ

@@ -7,13 +7,13 @@ use Rattle.session_replies.specs.Cases.{CaseView}
 use Rattle.session_replies.specs.Replies.{talk}
 use Rattle.run_io.specs.Fetches.{Files}
 use Rattle.run_io.specs.Told.{Rose, Told, Writes, WritesFront}
+use Rattle.run_files.specs.Loads.{AsksOnce}
+use Rattle.run_files.specs.Statuses.{extent_of, input_number, status_text}
+use Rattle.run_files.specs.Statuses.Extent.{whole}
+use Rattle.run_files.specs.declared.status.Status.{Status}
+use Rattle.run_files.specs.declared.status.Status.TheVariants.{Done, Memory, ReadFault, TooLong, WriteFault}
 use Rattle.run_cli.specs.Ends.{EndsAs, EndsShort, EndsWhole, HasCause, IsComplete, Outside, TakesInput, TakesSteps}
-use Rattle.run_cli.specs.Loads.{AsksOnce}
 use Rattle.run_cli.specs.Meanings.{Meaning}
-use Rattle.run_cli.specs.Statuses.{extent_of, input_number, status_text}
-use Rattle.run_cli.specs.Statuses.Extent.{whole}
-use Rattle.run_cli.specs.declared.status.Status.{Status}
-use Rattle.run_cli.specs.declared.status.Status.TheVariants.{Done, Memory, ReadFault, TooLong, WriteFault}
 
 -- all that the top call says of a run, by what its words mean
 pub record Serves (m : Meaning) (old new : Outside) (before now : ℕ) (s : Status) : Type 0 where

@@ -14,12 +14,12 @@ use Rattle.session_replies.specs.Replies.{talk}
 use Rattle.stock_tables.specs.Stock.{StockView}
 use Rattle.unit_rules.specs.Limits.{most_bytes}
 use Rattle.unit_rules.specs.declared.Zone.{Zone}
+use Rattle.run_files.specs.Files.{case_files, line_reading, plan_reading, stock_reading, table_in}
+use Rattle.run_files.specs.Statuses.{input_number, status_text}
+use Rattle.run_files.specs.declared.status.Status.{Status}
+use Rattle.run_files.specs.declared.status.Status.TheVariants.{Done, Memory, ReadFault, TooLong}
 use Rattle.run_cli.specs.FileForms.{ByCase, CaseAnswer}
-use Rattle.run_cli.specs.Files.{case_files, line_reading, plan_reading, stock_reading, table_in}
 use Rattle.run_cli.specs.Meanings.{Is, Meaning}
-use Rattle.run_cli.specs.Statuses.{input_number, status_text}
-use Rattle.run_cli.specs.declared.status.Status.{Status}
-use Rattle.run_cli.specs.declared.status.Status.TheVariants.{Done, Memory, ReadFault, TooLong}
 
 -- the replies to all lines of an input that isn't too long
 pub record RepliesToAll (input : List ℕ) (line : LineView) (stock : StockView) (plan : PlanView) (force : List (List ℕ × Zone)) (s : Status) (t : List ℕ) : Type 0 where

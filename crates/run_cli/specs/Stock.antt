@@ -5,13 +5,13 @@ use Rattle.report_text.specs.Texts.{bands_text}
 use Rattle.run_io.specs.Fetches.{Files}
 use Rattle.run_words.specs.declared.requests.StockForm.{StockForm}
 use Rattle.stock_tables.specs.Stock.{StockView}
+use Rattle.run_files.specs.Files.{IsRead, stock_reading}
+use Rattle.run_files.specs.declared.status.Status.TheVariants.{Done}
 use Rattle.run_cli.specs.FileForms.{stock_form}
 use Rattle.run_cli.specs.FileLaws.{is_done, stock_meant}
-use Rattle.run_cli.specs.Files.{IsRead, stock_reading}
 use Rattle.run_cli.specs.Meanings.{Is, Meaning}
 use Rattle.run_cli.specs.Serves.{IsMeant}
 use Rattle.run_cli.specs.declared.report.StockReport.{StockReport}
-use Rattle.run_cli.specs.declared.status.Status.TheVariants.{Done}
 
 -- what the form means
 abbrev pub stock_meaning : List ℕ → Meaning

@@ -4,22 +4,21 @@ ghost use Rattle.std.specs.Prelude.{◌≡◌, ◌≤◌, ◌+◌, ◌*◌, [], 
 ghost use Rattle.case_rules.specs.Case.{train_rule};
 ghost use Rattle.incr_envelope.specs.Envelope.{caps_under};
 ghost use Rattle.plan_tables.specs.Plan.{empty_plan};
+ghost use Rattle.run_files.specs.Files.{AreTables};
+ghost use Rattle.run_files.specs.Loads.{Loads};
 ghost use Rattle.run_cli.specs.Brakes.{brakes_allows, brakes_means};
 ghost use Rattle.run_cli.specs.FileLaws.{alone};
-ghost use Rattle.run_cli.specs.Files.{AreTables};
 ghost use Rattle.run_cli.specs.Forms.{meaning_of};
-ghost use Rattle.run_cli.specs.Loads.{Loads};
 ghost use Rattle.run_rules.specs.Runs.{IsBrakingList};
 ghost use Rattle.run_words.specs.Requests.{brakes_view};
 
-use crate::Status;
-use crate::files::load_both;
 use crate::form::Form;
 use crate::report::ListReport;
 use incr_envelope::braking_list;
 use line_tables::Line;
 use plan_tables::Plan;
 use restrictions::InForce;
+use run_files::{Status, load_both};
 use run_io::Shelf;
 use run_words::BrakesForm;
 use std::alloc::Global;

@@ -3,20 +3,19 @@
 ghost use Rattle.std.specs.Prelude.{◌≡◌, ◌≤◌, ◌+◌, [], Some, IfOk, OnOk, OnErr};
 ghost use Rattle.unit_rules.specs.Limits.{longest_line};
 ghost use Rattle.limit_profile.specs.Profile.{caps};
+ghost use Rattle.run_files.specs.Files.{IsRead, line_reading};
+ghost use Rattle.run_files.specs.Loads.{Loads};
 ghost use Rattle.run_cli.specs.Caps.{caps_allows, caps_means};
 ghost use Rattle.run_cli.specs.FileLaws.{alone};
-ghost use Rattle.run_cli.specs.Files.{IsRead, line_reading};
 ghost use Rattle.run_cli.specs.Forms.{meaning_of};
-ghost use Rattle.run_cli.specs.Loads.{Loads};
 ghost use Rattle.run_rules.specs.Caps.{caps_of};
 ghost use Rattle.run_words.specs.Requests.{caps_view};
 
-use crate::Status;
-use crate::files::load_line;
 use crate::form::Form;
 use crate::report::ListReport;
 use limit_profile::{Level, Limits};
 use line_tables::Line;
+use run_files::{Status, load_line};
 use run_io::Shelf;
 use run_words::CapsForm;
 use std::alloc::Global;

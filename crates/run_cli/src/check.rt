@@ -2,20 +2,18 @@
 //! that it breaks.
 
 ghost use Rattle.std.specs.Prelude.{◌≡◌, ◌≤◌, ◌+◌, ◌*◌, Some, IfOk, OnOk, OnErr};
+ghost use Rattle.run_files.specs.Files.{IsClaim};
+ghost use Rattle.run_files.specs.Loads.{AsksOnce, Loads};
 ghost use Rattle.run_cli.specs.Check.{IsChecked, check_allows, check_means, check_steps, found_status, found_text};
 ghost use Rattle.run_cli.specs.FileLaws.{alone};
-ghost use Rattle.run_cli.specs.Files.{IsClaim};
 ghost use Rattle.run_cli.specs.Forms.{meaning_of};
-ghost use Rattle.run_cli.specs.Loads.{AsksOnce, Loads};
 ghost use Rattle.run_words.specs.Requests.{case_view, check_view};
 
-use crate::Status;
-use crate::cases::{Case, Claim};
-use crate::files::load_claim;
 use crate::form::Form;
 use crate::report::CheckReport;
 use case_rules::course_on;
 use cert_check::check;
+use run_files::{Case, Claim, Status, load_claim};
 use run_io::Shelf;
 use run_words::CheckForm;
 use std::alloc::Global;

@@ -5,21 +5,20 @@ ghost use Rattle.std.specs.Prelude.{◌≡◌, ◌≤◌, ◌+◌, ◌*◌, [], 
 ghost use Rattle.case_rules.specs.Case.{train_rule};
 ghost use Rattle.incr_envelope.specs.Envelope.{caps_under};
 ghost use Rattle.plan_tables.specs.Plan.{empty_plan};
+ghost use Rattle.run_files.specs.Files.{AreTables};
+ghost use Rattle.run_files.specs.Loads.{Loads};
 ghost use Rattle.run_cli.specs.Envelope.{envelope_allows, envelope_means};
 ghost use Rattle.run_cli.specs.FileLaws.{alone};
-ghost use Rattle.run_cli.specs.Files.{AreTables};
 ghost use Rattle.run_cli.specs.Forms.{meaning_of};
-ghost use Rattle.run_cli.specs.Loads.{Loads};
 ghost use Rattle.run_rules.specs.Runs.{ReachesAs};
 ghost use Rattle.run_words.specs.Requests.{envelope_view};
 
-use crate::Status;
-use crate::files::load_both;
 use crate::form::Form;
 use incr_envelope::{Drive, drive};
 use line_tables::Line;
 use plan_tables::Plan;
 use restrictions::InForce;
+use run_files::{Status, load_both};
 use run_io::Shelf;
 use run_words::EnvelopeForm;
 use std::alloc::Global;

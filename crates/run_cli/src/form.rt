@@ -3,16 +3,16 @@
 ghost use Rattle.std.specs.Prelude.{◌≡◌, ◌≤◌, ◌+◌, ℕ, List, [], Option, Some, OnOk, OnErr, IfOk};
 ghost use Rattle.run_io.specs.Fetches.{Files};
 ghost use Rattle.run_io.specs.Told.{HasCause, Writes, WritesFront};
+ghost use Rattle.run_files.specs.Loads.{AsksOnce, Loads};
+ghost use Rattle.run_files.specs.Statuses.{status_text};
+ghost use Rattle.run_files.specs.declared.status.Status.{Status as Ending};
 ghost use Rattle.run_cli.specs.Ends.{outside};
 ghost use Rattle.run_cli.specs.Forms.{meaning_of};
-ghost use Rattle.run_cli.specs.Loads.{AsksOnce, Loads};
 ghost use Rattle.run_cli.specs.Meanings.{IsFileForm};
 ghost use Rattle.run_cli.specs.Serves.{Finishes, IsMeant, IsServed, Works};
-ghost use Rattle.run_cli.specs.Statuses.{status_text};
-ghost use Rattle.run_cli.specs.declared.status.Status.{Status as Ending};
 ghost use Rattle.run_words.specs.Requests.{Request};
 
-use crate::Status;
+use run_files::Status;
 use run_io::{Block, Failed, Shelf, Sink, Source};
 use std::alloc::Global;
 use std::sync::ledger::Ledger;

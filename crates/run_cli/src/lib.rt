@@ -3,36 +3,32 @@
 #![tactic(auto)]
 
 ghost use Rattle.std.specs.Prelude.{◌≡◌, Some, map, string_bytes};
+ghost use Rattle.run_files.specs.Loads.{AsksOnce};
 ghost use Rattle.run_cli.specs.Ends.{EndsAs, HasCause, IsComplete, TakesInput, TakesSteps, outside};
 ghost use Rattle.run_cli.specs.Forms.{WordsAnswerOnce, meaning_of, meant_by};
 ghost use Rattle.run_cli.specs.Laws.{PrintedAreValid, RepliedAreValid};
-ghost use Rattle.run_cli.specs.Loads.{AsksOnce};
 ghost use Rattle.run_cli.specs.Serves.{IsServed};
 ghost use Rattle.run_words.specs.Requests.{view};
 
 mod brakes;
 mod caps;
-mod cases;
 mod cert_report;
 mod check;
-mod edits;
 mod envelope;
-mod files;
 mod form;
 mod plan;
 mod report;
 mod rise;
 mod rise_report;
 mod session;
-mod status;
 mod stock;
 mod timetable_report;
 
 use crate::form::{refuse, serve};
 use crate::session::serve_session;
+pub use run_files::Status;
 use run_io::{Shelf, Sink, Source};
 use run_words::{Request, read_request};
-pub use status::Status;
 use std::alloc::Global;
 use std::sync::ledger::Ledger;
 use unit_rules::{Memory, Steps};

@@ -3,23 +3,21 @@
 
 ghost use Rattle.std.specs.Prelude.{◌≡◌, ◌≤◌, ◌+◌, ◌*◌, Some, IfOk, OnOk, OnErr};
 ghost use Rattle.allowances.specs.Rows.{row_count, section_count};
+ghost use Rattle.run_files.specs.Files.{IsCase};
+ghost use Rattle.run_files.specs.Loads.{AsksOnce, Loads};
 ghost use Rattle.run_cli.specs.FileLaws.{alone};
-ghost use Rattle.run_cli.specs.Files.{IsCase};
 ghost use Rattle.run_cli.specs.Forms.{meaning_of};
-ghost use Rattle.run_cli.specs.Loads.{AsksOnce, Loads};
 ghost use Rattle.run_cli.specs.Plan.{IsTimed, case_steps, found_status, found_text, plan_allows, plan_answer, plan_means};
 ghost use Rattle.time_brackets.specs.Sums.{block_cells};
 ghost use Rattle.run_words.specs.Requests.{case_view, plan_view};
 
-use crate::Status;
-use crate::cases::Case;
 use crate::cert_report::CertReport;
-use crate::files::load_case;
 use crate::form::Form;
 use crate::report::PlanReport;
 use crate::timetable_report::TimetableReport;
 use allowances::planned;
 use incr_envelope::{Envelope, drive};
+use run_files::{Case, Status, load_case};
 use run_io::Shelf;
 use run_words::{PlanForm, Print};
 use std::alloc::Global;

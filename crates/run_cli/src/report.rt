@@ -2,12 +2,11 @@
 
 ghost use Rattle.std.specs.Prelude.{◌≡◌, ◌≤◌, ◌+◌, ◌*◌, OnOk, OnErr};
 ghost use Rattle.report_text.specs.Texts.{bands_text, envelope_text, list_text};
+ghost use Rattle.run_files.specs.declared.status.Status.TheVariants.{Done};
 ghost use Rattle.run_cli.specs.Check as check;
 ghost use Rattle.run_cli.specs.Envelope.{envelope_status};
 ghost use Rattle.run_cli.specs.Plan.{found_status, found_text};
-ghost use Rattle.run_cli.specs.declared.status.Status.TheVariants.{Done};
 
-use crate::Status;
 use crate::cert_report::CertReport;
 use crate::form::{Report, write_status};
 use crate::timetable_report::TimetableReport;
@@ -16,6 +15,7 @@ use incr_envelope::Drive;
 use report_text::{
     write_bands, write_envelope, write_list, write_reach, write_timetable, write_valid,
 };
+use run_files::Status;
 use run_io::{Failed, Sink};
 use std::sync::ledger::Ledger;
 use stock_tables::Stock;

@@ -2,22 +2,21 @@
 
 ghost use Rattle.std.specs.Prelude.{◌≡◌, ◌≤◌, ◌<◌, ◌+◌, ◌*◌, ◌++◌, ◌∷◌, [], min, Some, OnOk, OnErr, IfOk};
 ghost use Rattle.unit_rules.specs.Limits.{greatest_speed};
+ghost use Rattle.run_files.specs.Files.{AreTables};
+ghost use Rattle.run_files.specs.Loads.{Loads};
+ghost use Rattle.run_files.specs.declared.status.Status.TheVariants.{Done};
 ghost use Rattle.run_cli.specs.FileLaws.{alone};
-ghost use Rattle.run_cli.specs.Files.{AreTables};
 ghost use Rattle.run_cli.specs.Forms.{meaning_of};
-ghost use Rattle.run_cli.specs.Loads.{Loads};
 ghost use Rattle.run_cli.specs.Rise.{rise_allows, rise_line, rise_means, rise_text, shown_rise};
-ghost use Rattle.run_cli.specs.declared.status.Status.TheVariants.{Done};
 ghost use Rattle.run_rules.specs.Speeds.{squared};
 ghost use Rattle.run_words.specs.Requests.{rise_view};
 ghost use Rattle.step_rule.specs.Motion.{cells_of, most_of, step_rule_of};
 
-use crate::Status;
-use crate::files::load_both;
 use crate::form::{Form, Report};
 use crate::rise_report::RiseReport;
 use case_rules::{pulls_on, rule_by};
 use line_tables::Line;
+use run_files::{Status, load_both};
 use run_io::{Block, Failed, Rows, Shelf, Sink, write_rows};
 use run_rules::squared;
 use run_words::RiseForm;

@@ -7,10 +7,8 @@ ghost use Rattle.run_cli.specs.Serves.{Closes, Holds, IsServed};
 ghost use Rattle.run_words.specs.Requests.{session_view};
 ghost use Rattle.session_replies.specs.Cases.{case_of};
 
-use crate::Status;
-use crate::cases::Case;
-use crate::files::{INPUT, load_case};
 use crate::form::refuse;
+use run_files::{Case, INPUT, Status, load_case};
 use run_io::{Shelf, Sink, Source};
 use run_words::{CaseForm, SessionForm};
 use session_lines::{Ending, answer_lines};

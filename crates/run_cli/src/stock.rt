@@ -1,17 +1,16 @@
 //! The form `stock`: the tables of a train by whole km/h.
 
 ghost use Rattle.std.specs.Prelude.{◌≡◌, ◌≤◌, ◌+◌, Some, IfOk};
+ghost use Rattle.run_files.specs.Files.{IsRead, stock_reading};
+ghost use Rattle.run_files.specs.Loads.{Loads};
 ghost use Rattle.run_cli.specs.FileLaws.{alone};
-ghost use Rattle.run_cli.specs.Files.{IsRead, stock_reading};
 ghost use Rattle.run_cli.specs.Forms.{meaning_of};
-ghost use Rattle.run_cli.specs.Loads.{Loads};
 ghost use Rattle.run_cli.specs.Stock.{stock_allows, stock_means};
 ghost use Rattle.run_words.specs.Requests.{stock_view};
 
-use crate::Status;
-use crate::files::load_stock;
 use crate::form::Form;
 use crate::report::StockReport;
+use run_files::{Status, load_stock};
 use run_io::Shelf;
 use run_words::StockForm;
 use std::alloc::Global;

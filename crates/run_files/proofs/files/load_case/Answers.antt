@@ -1,8 +1,8 @@
 use Rattle.std.proofs.Common.{◌∷◌, [], rules}
-use Rattle.run_cli.specs.Files.{edits_files, line_file, plan_file, stock_file}
-use Rattle.run_cli.specs.Loads.{name_in}
-use Rattle.run_cli.proofs.LoadFacts.{AreInForce-lie, Loads-all, Loads-behind, Loads-first, Loads-orders}
-use Rattle.run_cli.proofs.files.load_case.Goals as goal
+use Rattle.run_files.specs.Files.{edits_files, line_file, plan_file, stock_file}
+use Rattle.run_files.specs.Loads.{name_in}
+use Rattle.run_files.proofs.LoadFacts.{AreInForce-lie, Loads-all, Loads-behind, Loads-first, Loads-orders}
+use Rattle.run_files.proofs.files.load_case.Goals as goal
 
 pub returns-in_err-line-clause-loads : goal.returns-in_err-line-clause-loads
 returns-in_err-line-clause-loads g c =

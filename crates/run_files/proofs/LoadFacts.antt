@@ -11,12 +11,12 @@ use Rattle.run_io.specs.Fetches.{Files}
 use Rattle.run_io.specs.Told.{Told}
 use Rattle.unit_rules.specs.Memory.{Gives}
 use Rattle.unit_rules.specs.Limits.{most_bytes}
-use Rattle.run_cli.specs.Files.{AreInForce, Blames, BlamesFile, File, IsRead, IsRefusal, Reading, edits_files, edits_reading, fault_for, fault_in, fault_of, file_for, file_read, line_reading, plan_file, plan_reading, refusal, table_in, table_of}
-use Rattle.run_cli.specs.Loads.{Fetched, IsReason, LoadStops, Loads, MayRefuse, edits_read, file_named}
-use Rattle.run_cli.specs.Statuses.{edits_number, plan_number}
-use Rattle.run_cli.specs.declared.status.Status.{Status}
-use Rattle.run_cli.specs.declared.status.Status.TheVariants.{Memory, TooLong}
-use Rattle.run_cli.proofs.ServeFacts.{IfSome-along, IfSome-both}
+use Rattle.run_files.specs.Files.{AreInForce, Blames, BlamesFile, File, IsRead, IsRefusal, Reading, edits_files, edits_reading, fault_for, fault_in, fault_of, file_for, file_read, line_reading, plan_file, plan_reading, refusal, table_in, table_of}
+use Rattle.run_files.specs.Loads.{Fetched, IsReason, LoadStops, Loads, MayRefuse, edits_read, file_named}
+use Rattle.run_files.specs.Statuses.{edits_number, plan_number}
+use Rattle.run_files.specs.declared.status.Status.{Status}
+use Rattle.run_files.specs.declared.status.Status.TheVariants.{Memory, TooLong}
+use Rattle.run_files.proofs.ToldFacts.{IfSome-along, IfSome-both}
 
 -- nothing is in the way of the first files, so what is in the way of the later ones is in the way of all
 refusal-later : (files : Files) (a b : List File) → refusal files a ≡ None → refusal files (a ++ b) ≡ refusal files b

@@ -1,10 +1,10 @@
 //! The files that a form reads: fetched by name, and read by the reader of their kind.
 
 ghost use Rattle.std.specs.Prelude.{◌≡◌, ◌≤◌, ◌∷◌, ℕ, List, [], Err, IfOk, None, Some};
-ghost use Rattle.run_cli.specs.Files.{AreInForce, IsCase, IsClaim, IsRead, Reading, case_files, cert_reading, claim_files, edits_reading, file_read, line_file, line_reading, plan_reading, stock_file, stock_reading};
-ghost use Rattle.run_cli.specs.Loads.{AsksOnce, Fetched, Loads, MayRefuse, edits_read, file_named, name_in};
-ghost use Rattle.run_cli.specs.ReaderLaws.{cert_refuses, edits_refuses, line_refuses, plan_refuses, stock_refuses};
-ghost use Rattle.run_cli.specs.declared.status.Status.TheVariants.{Memory as NoMemory};
+ghost use Rattle.run_files.specs.Files.{AreInForce, IsCase, IsClaim, IsRead, Reading, case_files, cert_reading, claim_files, edits_reading, file_read, line_file, line_reading, plan_reading, stock_file, stock_reading};
+ghost use Rattle.run_files.specs.Loads.{AsksOnce, Fetched, Loads, MayRefuse, edits_read, file_named, name_in};
+ghost use Rattle.run_files.specs.ReaderLaws.{cert_refuses, edits_refuses, line_refuses, plan_refuses, stock_refuses};
+ghost use Rattle.run_files.specs.declared.status.Status.TheVariants.{Memory as NoMemory};
 ghost use Rattle.run_words.specs.Requests.{case_view};
 ghost use Rattle.unit_rules.specs.Memory.{Gives};
 
@@ -37,7 +37,7 @@ pub(crate) const EDITS_FILE: u32 = 4;
 pub(crate) const CERT_FILE: u32 = 5;
 
 /// The number of a session's input.
-pub(crate) const INPUT: u32 = 6;
+pub const INPUT: u32 = 6;
 
 /// A reader of one kind of file.
 pub(crate) trait Reader {
@@ -165,8 +165,8 @@ impl Reader for CertReader {
     ghost refuses = { λ r. cert_refuses };
 }
 
-// The claim of the files of these names: first those of the case, and then the certificate.
-pub(crate) fn load_claim<S: Shelf>(
+/// The claim of the files of these names: first those of the case, and then the certificate.
+pub fn load_claim<S: Shelf>(
     alloc: Global,
     shelf: &mut S,
     form: &CheckForm<'_>,
@@ -183,9 +183,9 @@ pub(crate) fn load_claim<S: Shelf>(
     Ok(Claim { case, cert })
 }
 
-// The case of the files of these names, the line file first, then the stock file, the plan file and
-// the edits file, if there is one.
-pub(crate) fn load_case<S: Shelf>(
+/// The case of the files of these names, the line file first, then the stock file, the plan file and
+/// the edits file, if there is one.
+pub fn load_case<S: Shelf>(
     alloc: Global,
     shelf: &mut S,
     form: &CaseForm<'_>,
@@ -251,8 +251,8 @@ fn load_edits<S: Shelf>(
     }
 }
 
-// The line and the stock of the files of these names, the line file first.
-pub(crate) fn load_both<S: Shelf>(
+/// The line and the stock of the files of these names, the line file first.
+pub fn load_both<S: Shelf>(
     alloc: Global,
     shelf: &mut S,
     line_name: &str,
@@ -272,8 +272,8 @@ pub(crate) fn load_both<S: Shelf>(
     Ok((line, stock))
 }
 
-// The line of the line file of that name.
-pub(crate) fn load_line<S: Shelf>(alloc: Global, shelf: &mut S, name: &str) -> Result<Line, Status>
+/// The line of the line file of that name.
+pub fn load_line<S: Shelf>(alloc: Global, shelf: &mut S, name: &str) -> Result<Line, Status>
     ensures line { IfOk result (IsRead line_reading (S.told shelf.old).holds name.now) }
     ensures loads { Loads (line_file name.now ∷ []) (S.told shelf.old) (S.told shelf.new) result }
     ensures asks { AsksOnce (line_file name.now ∷ []) (S.asked shelf.old) (S.asked shelf.new) }
@@ -281,12 +281,8 @@ pub(crate) fn load_line<S: Shelf>(alloc: Global, shelf: &mut S, name: &str) -> R
     load_file(alloc, shelf, &LineReader, name)
 }
 
-// The stock of the stock file of that name.
-pub(crate) fn load_stock<S: Shelf>(
-    alloc: Global,
-    shelf: &mut S,
-    name: &str,
-) -> Result<Stock, Status>
+/// The stock of the stock file of that name.
+pub fn load_stock<S: Shelf>(alloc: Global, shelf: &mut S, name: &str) -> Result<Stock, Status>
     ensures stock { IfOk result (IsRead stock_reading (S.told shelf.old).holds name.now) }
     ensures loads { Loads (stock_file name.now ∷ []) (S.told shelf.old) (S.told shelf.new) result }
     ensures asks { AsksOnce (stock_file name.now ∷ []) (S.asked shelf.old) (S.asked shelf.new) }

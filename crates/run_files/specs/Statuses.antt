@@ -12,8 +12,8 @@ use Rattle.restrictions.specs.declared.edits.EditsFault.TheVariants as edits
 use Rattle.stock_tables.specs.Rules.{brake_law, effort_key, effort_law}
 use Rattle.stock_tables.specs.declared.StockFault.{StockFault}
 use Rattle.stock_tables.specs.declared.StockFault.TheVariants as stock
-use Rattle.run_cli.specs.declared.status.Status.{Status}
-use Rattle.run_cli.specs.declared.status.Status.TheVariants.{Memory, Usage, ReadFault, WriteFault, Refused, NotValid, TooLong}
+use Rattle.run_files.specs.declared.status.Status.{Status}
+use Rattle.run_files.specs.declared.status.Status.TheVariants.{Memory, Usage, ReadFault, WriteFault, Refused, NotValid, TooLong}
 
 -- the text of a refusal; the others have none of their own, as a form that ends by a stall has written its text
 abbrev pub status_text : Status → List ℕ

@@ -17,11 +17,11 @@ use Rattle.unit_rules.specs.declared.Zone.{Zone}
 use Rattle.run_words.specs.Requests.{CaseNames}
 use Rattle.stock_tables.specs.StockFile as stock
 use Rattle.stock_tables.specs.Stock.{IsStock, StockView}
-use Rattle.run_cli.specs.Statuses.{cert_number, cert_status, edits_number, edits_status, line_number, line_status, plan_number, plan_status, stock_number, stock_status}
-use Rattle.run_cli.specs.declared.cases.Case.{Case}
-use Rattle.run_cli.specs.declared.cases.Claim.{Claim}
-use Rattle.run_cli.specs.declared.status.Status.{Status}
-use Rattle.run_cli.specs.declared.status.Status.TheVariants.{ReadFault, Refused, TooLong}
+use Rattle.run_files.specs.Statuses.{cert_number, cert_status, edits_number, edits_status, line_number, line_status, plan_number, plan_status, stock_number, stock_status}
+use Rattle.run_files.specs.declared.cases.Case.{Case}
+use Rattle.run_files.specs.declared.cases.Claim.{Claim}
+use Rattle.run_files.specs.declared.status.Status.{Status}
+use Rattle.run_files.specs.declared.status.Status.TheVariants.{ReadFault, Refused, TooLong}
 
 -- a file that is read: its number among the files of all forms, its name, and the status of the fault that its reader
 -- finds in some bytes, if there is one; a reader may know the files that were read before

@@ -1,8 +1,8 @@
 use Rattle.std.proofs.Common.{◌∷◌, [], rules}
 use Rattle.run_words.specs.Requests.{case_view}
-use Rattle.run_cli.specs.Files.{case_files, cert_file}
-use Rattle.run_cli.proofs.LoadFacts.{Loads-all, Loads-behind, Loads-first}
-use Rattle.run_cli.proofs.files.load_claim.Goals as goal
+use Rattle.run_files.specs.Files.{case_files, cert_file}
+use Rattle.run_files.proofs.LoadFacts.{Loads-all, Loads-behind, Loads-first}
+use Rattle.run_files.proofs.files.load_claim.Goals as goal
 
 pub returns-in_err-case-clause-loads : goal.returns-in_err-case-clause-loads
 returns-in_err-case-clause-loads g c =

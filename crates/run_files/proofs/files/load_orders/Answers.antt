@@ -1,8 +1,8 @@
 use Rattle.std.proofs.Common.{◌∷◌, [], rules}
-use Rattle.run_cli.specs.Files.{file_read, plan_reading}
-use Rattle.run_cli.specs.Loads.{edits_read, name_in}
-use Rattle.run_cli.proofs.LoadFacts.{Loads-all, Loads-behind, Loads-first}
-use Rattle.run_cli.proofs.files.load_orders.Goals as goal
+use Rattle.run_files.specs.Files.{file_read, plan_reading}
+use Rattle.run_files.specs.Loads.{edits_read, name_in}
+use Rattle.run_files.proofs.LoadFacts.{Loads-all, Loads-behind, Loads-first}
+use Rattle.run_files.proofs.files.load_orders.Goals as goal
 
 pub returns-in_err-plan-clause-loads : goal.returns-in_err-plan-clause-loads
 returns-in_err-plan-clause-loads g c =

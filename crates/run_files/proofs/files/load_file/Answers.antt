@@ -1,7 +1,7 @@
 use Rattle.std.proofs.Common.{rules}
-use Rattle.run_cli.specs.Files.{file_read}
-use Rattle.run_cli.proofs.LoadFacts.{IsRead-given, Loads-read, Loads-unfetched}
-use Rattle.run_cli.proofs.files.load_file.Goals as goal
+use Rattle.run_files.specs.Files.{file_read}
+use Rattle.run_files.proofs.LoadFacts.{IsRead-given, Loads-read, Loads-unfetched}
+use Rattle.run_files.proofs.files.load_file.Goals as goal
 
 pub returns-in_err-bytes-clause-loads : goal.returns-in_err-bytes-clause-loads
 returns-in_err-bytes-clause-loads g c =

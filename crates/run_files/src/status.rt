@@ -1,9 +1,9 @@
 //! How a run ends.
 
 ghost use Rattle.std.specs.Prelude.{◌≡◌, ◌++◌, []};
-ghost use Rattle.run_cli.specs.Exits.{exit_of};
-ghost use Rattle.run_cli.specs.Statuses.{cert_status, edits_status, law_rule, line_status, plan_status, status_text, stock_status};
-ghost use Rattle.run_cli.specs.declared.status.Status.TheVariants.{Memory as NoMemory, WriteFault};
+ghost use Rattle.run_files.specs.Exits.{exit_of};
+ghost use Rattle.run_files.specs.Statuses.{cert_status, edits_status, law_rule, line_status, plan_status, status_text, stock_status};
+ghost use Rattle.run_files.specs.declared.status.Status.TheVariants.{Memory as NoMemory, WriteFault};
 
 use crate::files::{CERT_FILE, EDITS_FILE, LINE_FILE, PLAN_FILE, STOCK_FILE};
 use certificate::CertText;
@@ -57,8 +57,8 @@ impl Status {
         }
     }
 
-    // Puts the text of the status on an empty block, from its end on.
-    pub(crate) fn put(&self, block: &mut Block)
+    /// Puts the text of the status on an empty block, from its end on.
+    pub fn put(&self, block: &mut Block)
         requires { block.old ≡ [] }
         ensures { block.new ≡ status_text self.now }
     {

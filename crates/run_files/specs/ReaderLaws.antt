@@ -19,9 +19,9 @@ use Rattle.stock_tables.specs.StockFile as stock
 use Rattle.stock_tables.specs.Stock.{StockView}
 use Rattle.stock_tables.specs.declared.StockFault.{StockFault}
 use Rattle.stock_tables.specs.declared.StockFault.TheVariants as stock_fault
-use Rattle.run_cli.specs.Files.{cert_reading, edits_reading, line_reading, plan_reading, stock_reading, with_status}
-use Rattle.run_cli.specs.Loads.{MayRefuse}
-use Rattle.run_cli.specs.Statuses.{cert_number, cert_status, edits_number, edits_status, line_number, line_status, plan_number, plan_status, stock_number, stock_status}
+use Rattle.run_files.specs.Files.{cert_reading, edits_reading, line_reading, plan_reading, stock_reading, with_status}
+use Rattle.run_files.specs.Loads.{MayRefuse}
+use Rattle.run_files.specs.Statuses.{cert_number, cert_status, edits_number, edits_status, line_number, line_status, plan_number, plan_status, stock_number, stock_status}
 
 line_refused : (r : Result LineView LineFault) → MayRefuse line_number (with_status line_status r)
 line_refused (Ok table) = tt

@@ -14,20 +14,26 @@ use stock_tables::Stock;
 
 /// A case: a line, a train, a plan that lies on the line, and restrictions that do.
 #[derive(Drop)]
-pub(crate) struct Case {
-    pub(crate) line: Line,
-    pub(crate) stock: Stock,
-    pub(crate) plan: Plan,
-    pub(crate) force: InForce,
-    pub(crate) ghost lies: { PlanLiesOn line.length plan },
-    pub(crate) ghost fast: { stock.top ≤ greatest_speed },
-    pub(crate) ghost short: { line.length ≤ longest_line },
-    pub(crate) ghost placed: { All (LiesOn line.length) (zones_of force.pairs) },
+pub struct Case {
+    /// The line.
+    pub line: Line,
+    /// The train.
+    pub stock: Stock,
+    /// The plan.
+    pub plan: Plan,
+    /// The restrictions in force.
+    pub force: InForce,
+    pub ghost lies: { PlanLiesOn line.length plan },
+    pub ghost fast: { stock.top ≤ greatest_speed },
+    pub ghost short: { line.length ≤ longest_line },
+    pub ghost placed: { All (LiesOn line.length) (zones_of force.pairs) },
 }
 
 /// A case, and a certificate that is said to be its own.
 #[derive(Drop)]
-pub(crate) struct Claim {
-    pub(crate) case: Case,
-    pub(crate) cert: Cert,
+pub struct Claim {
+    /// The case.
+    pub case: Case,
+    /// The certificate.
+    pub cert: Cert,
 }

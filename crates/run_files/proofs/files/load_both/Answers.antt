@@ -1,7 +1,7 @@
 use Rattle.std.proofs.Common.{◌∷◌, [], rules}
-use Rattle.run_cli.specs.Files.{line_file, stock_file}
-use Rattle.run_cli.proofs.LoadFacts.{Loads-behind, Loads-first}
-use Rattle.run_cli.proofs.files.load_both.Goals as goal
+use Rattle.run_files.specs.Files.{line_file, stock_file}
+use Rattle.run_files.proofs.LoadFacts.{Loads-behind, Loads-first}
+use Rattle.run_files.proofs.files.load_both.Goals as goal
 
 pub returns-in_err-line-clause-loads : goal.returns-in_err-line-clause-loads
 returns-in_err-line-clause-loads g c =

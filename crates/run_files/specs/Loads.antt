@@ -5,9 +5,9 @@ use Rattle.line_tables.specs.Line.{LineView}
 use Rattle.run_io.specs.Fetches.{Files}
 use Rattle.run_io.specs.Told.{Rose, Told}
 use Rattle.unit_rules.specs.Limits.{most_bytes}
-use Rattle.run_cli.specs.Files.{Blames, File, edits_reading, file_read, IsRefusal, refusal}
-use Rattle.run_cli.specs.declared.status.Status.{Status}
-use Rattle.run_cli.specs.declared.status.Status.TheVariants.{Memory, ReadFault}
+use Rattle.run_files.specs.Files.{Blames, File, edits_reading, file_read, IsRefusal, refusal}
+use Rattle.run_files.specs.declared.status.Status.{Status}
+use Rattle.run_files.specs.declared.status.Status.TheVariants.{Memory, ReadFault}
 
 -- the shelf failed, or, where files are told, one of them is the first that is in the way
 abbrev pub IsReason : List File → Told Files → Told Files → Status → Type 0

@@ -1,0 +1,5 @@
+pub mod Statuses
+pub mod Exits
+pub mod Files
+pub mod Loads
+pub mod ReaderLaws
