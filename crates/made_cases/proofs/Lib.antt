@@ -1,0 +1,3 @@
+pub mod DrawFacts
+pub mod LineFacts
+pub mod ScriptFacts

@@ -1,0 +1,5 @@
+pub mod Draws
+pub mod Files
+pub mod Commands
+pub mod Kept
+pub mod Made
