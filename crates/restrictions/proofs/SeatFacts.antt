@@ -1,5 +1,5 @@
 -- Seats in the order of their IDs: which of them an ID has, and how one more or less keeps the order.
-use Rattle.std.proofs.Common.{◌≡◌, ◌≤◌, ◌<◌, ◌+◌, ℕ, suc, List, [], ◌∷◌, ◌++◌, true, false, Option, Some, None, Result, Ok, Err, IfErr, IfOk, Ordering, length, get_or, map, take, drop, refl, sym, ap, ◌∙◌, arith, inl, inr}
+use Rattle.std.proofs.Common.{◌≡◌, ◌≤◌, ◌<◌, ◌+◌, ℕ, suc, List, [], ◌∷◌, ◌++◌, true, false, Option, Some, None, Result, Ok, Err, IfErr, Ordering, length, get_or, map, take, drop, refl, sym, ap, ◌∙◌, arith, inl, inr}
 use Rattle.std.proofs.lemmas.Bool.{cases_Bool, cases_lt, false_from_ne_true, true≢false}
 use Rattle.std.proofs.lemmas.Cmp.{nat_list_cmp_total}
 use Rattle.std.proofs.lemmas.List.{get_or-drop, get_or-map, get_or-take, get_or_default, length-drop, length-map, length-take-le, map-append, take-append-drop}
@@ -189,12 +189,7 @@ pub IsInOrder-none : IsInOrder []
 unfolding IsStrictlySortedBy
 IsInOrder-none = tt
 
--- what halving finds: the seat of an ID
-pub found_at : (seats : List Seat) (id : List ℕ) (r : Result ℕ ℕ) → IsBinarySearchResult (λ s. order s.id id) seats r → IfOk r (λ k. (d : Seat) → (get_or seats k d).id ≡ id)
-found_at seats id (Ok k) h = λ d. same_from_equal (get_or seats k d).id id (h d)
-found_at seats id (Err k) h = tt
-
--- or none, and where one for it may be put in
+-- where halving finds no seat of an ID, there is none, and one for it may be put in
 pub free_at : (seats : List Seat) (id : List ℕ) (r : Result ℕ ℕ) → IsInOrder seats → IsBinarySearchResult (λ s. order s.id id) seats r → IfErr r (λ _. place_of id seats ≡ None)
 free_at seats id (Ok k) o h = tt
 free_at seats id (Err k) o h = place_of-free seats id k (h (searchable seats id o))

@@ -46,14 +46,17 @@ pub fn read_edits(alloc: Global, bytes: &[u8], length: u32) -> Result<InForce, E
     Ok(force)
 }
 
-// The first line of a text, and what is behind it.
+/// The first line of a text, without one CR at its end, and what is behind it.
 #[derive(Clone, Copy)]
-struct FirstLine<'a> {
-    line: &'a [u8],
-    rest: &'a [u8],
+pub struct FirstLine<'a> {
+    /// The line.
+    pub line: &'a [u8],
+    /// What is behind the LF that ends it.
+    pub rest: &'a [u8],
 }
 
-fn first_line<'a>(text: &'a [u8]) -> FirstLine<'a>
+/// Takes the first line off a text of at least a byte.
+pub fn first_line<'a>(text: &'a [u8]) -> FirstLine<'a>
     requires { 0 < length text.now }
     ensures lines { lines_of text.now ≡ result.line.now ∷ lines_of result.rest.now }
     ensures shorter { length result.rest.now < length text.now }

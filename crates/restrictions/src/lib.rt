@@ -11,6 +11,6 @@ mod tests;
 mod words;
 
 pub use commands::{Command, CommandFault, read_command};
-pub use edits::{EditsFault, read_edits, without_cr};
+pub use edits::{EditsFault, FirstLine, first_line, read_edits, without_cr};
 pub use force::{EditFault, InForce, MOST_IN_FORCE};
 pub use ids::Id;

@@ -1,103 +1,62 @@
--- That lines are answered as the dialogue says.
-use Rattle.std.proofs.Common.{◌≡◌, ◌≤◌, ℕ, ◌+◌, ◌*◌, List, length, Option, Some, None, Result, Ok, Err, OnErr, OnOk, nat_lt, is_some, if◌then◌else◌, arith, refl, subst, sym, ◌∙◌, inl, inr}
-use Rattle.std.proofs.lemmas.Bool.{cases_Bool}
-use Rattle.run_io.proofs.Written.{Writes-nil}
+-- That lines come to what the dialogue says, and that their answers are written so.
+use Rattle.std.proofs.Common.{◌≡◌, ◌≤◌, ℕ, ◌+◌, ◌*◌, List, Option, Some, None, Result, Ok, Err, OnErr, OnOk, is_some, if◌then◌else◌, arith, refl, subst, sym, ap, ◌∙◌}
 use Rattle.run_io.specs.Told.{HasCause, Told, Writes, WritesFront}
 use Rattle.run_io.specs.declared.Failed.{Failed}
-use Rattle.incr_envelope.specs.Envelope.{EnvelopeView, IsFromScratch, IsOneCase, arrival_in, touched_by}
-use Rattle.allowances.specs.Rows.{row_count, rows_of, section_count}
-use Rattle.allowances.specs.declared.Row.{Row}
+use Rattle.incr_envelope.specs.Envelope.{EnvelopeView, IsFromScratch, IsOneCase, touched_by}
 use Rattle.certificate.specs.Texts.{CertView}
-use Rattle.plan_tables.specs.Plan.{PlanView}
-use Rattle.report_text.specs.Replies.{reply_line}
-use Rattle.report_text.specs.Texts.{reach_text}
-use Rattle.report_text.specs.Timetables.{timetable_text}
-use Rattle.report_text.specs.declared.replies.Reply.TheVariants as reply
-use Rattle.restrictions.specs.Commands.{command_of}
-use Rattle.restrictions.specs.Edits.{code_of_edit, code_of_line}
-use Rattle.restrictions.specs.declared.commands.CommandFault.{CommandFault}
+use Rattle.restrictions.specs.Edits.{code_of_edit}
 use Rattle.restrictions.specs.Force.{put_in, take_from, without, zone_of}
 use Rattle.restrictions.specs.declared.force.EditFault.{EditFault}
 use Rattle.restrictions.specs.declared.force.EditFault.TheVariants.{Absent}
-use Rattle.session_lines.specs.Sessions.{Responds}
+use Rattle.session_lines.specs.Sessions.{Responds, RespondsBy}
 use Rattle.session_lines.specs.declared.Stop.{Stop}
 use Rattle.session_lines.specs.declared.Stop.TheVariants as stop
-use Rattle.time_brackets.specs.Sums.{block_cells}
-use Rattle.unit_rules.specs.declared.Reach.TheVariants as reach
+use Rattle.unit_rules.specs.declared.Reach.{Reach}
 use Rattle.unit_rules.specs.declared.Zone.{Zone}
 use Rattle.session_replies.specs.CaseLaws.{IsRunOf-right, length-caps_under}
-use Rattle.session_replies.specs.Answered.{Answers, IsWritten, replied_by, time_reply}
+use Rattle.session_replies.specs.Answered.{Comes, IsWritten, Tells, WritesBy, first_steps, last_steps, replied_by}
 use Rattle.session_replies.specs.Asked.{Asked, asked, asked_put, asked_take, case_after}
-use Rattle.session_replies.specs.Asked.Asked.{Edit, Refused, Timetable}
+use Rattle.session_replies.specs.Asked.Asked.{Certificate, Edit, Refused, Speeds, Time, Timetable}
 use Rattle.session_replies.specs.Cases.{CaseView, IsLawfulCase, case_in}
-use Rattle.session_replies.specs.Replies.{arrival_reply, line_steps, reply_text, talk}
-use Rattle.session_replies.specs.Runs.{IsRunOf}
+use Rattle.session_replies.specs.Replies.{ComesTo, MayTake, MayWant, Replies, answer_text, answer_to, line_steps, reply_text, talk}
+use Rattle.session_replies.specs.Runs.{IsRunOf, run_in}
+use Rattle.session_replies.specs.TalkLaws.{stays}
+use Rattle.session_replies.specs.declared.answers.Answer.{Answer}
+use Rattle.session_replies.specs.declared.answers.Answer.TheVariants as answer
+use Rattle.session_replies.specs.declared.answers.Change.{Change}
+use Rattle.session_replies.specs.declared.answers.Change.TheVariants as change
 
 -- a text is written as its reply is
-pub IsWritten-replied : (old new : Told (List ℕ)) (t : List ℕ) (w : Result (Unit {0}) Failed) → OnOk w (Writes old new t) → OnErr w (WritesFront old new t) → HasCause old new w
-    → IsWritten old new t (replied_by w)
-IsWritten-replied old new t (Ok u) ok failed cause = record { later = cause.later; text = ok }
-IsWritten-replied old new t (Err f) ok failed cause = record { later = cause.later; text = (cause.failed, failed) }
+pub IsWritten-replied : (a : Answer) (old new : Told (List ℕ)) (t : List ℕ) (w : Result (Unit {0}) Failed) → OnOk w (Writes old new t) → OnErr w (WritesFront old new t) → HasCause old new w
+    → IsWritten a old new t (replied_by w)
+IsWritten-replied a old new t (Ok u) ok failed cause = record { later = cause.later; text = ok }
+IsWritten-replied a old new t (Err f) ok failed cause = record { later = cause.later; text = (cause.failed, failed) }
 
--- a line is answered where its reply is written
-pub Answers-written : (c c' : CaseView) (a : Asked) (was is : CertView) (old new : Told (List ℕ)) (before now : ℕ) (result : Result (Unit {0}) Stop) → IsRunOf c was → IsRunOf (case_after c a) is
-    → c' ≡ case_after c a → now ≤ before + line_steps c a was is → IsWritten old new (reply_text (case_after c a) is a) result → Answers c c' a old new before now result
-Answers-written c c' a was is old new before now (Ok u) was_run is_run same cost written = record {
-  later = written.later;
-  cost = line_steps c a was is;
-  allowed = record { old = was; new = is; was_run = was_run; is_run = is_run; is = refl };
-  within = cost;
-  outcome = (same, (reply_text (case_after c a) is a, record { run = is; is_run = is_run; text = refl }, written.text));
-}
-Answers-written c c' a was is old new before now (Err stop.Write) was_run is_run same cost written = record {
-  later = written.later;
-  cost = line_steps c a was is;
-  allowed = record { old = was; new = is; was_run = was_run; is_run = is_run; is = refl };
-  within = cost;
-  outcome = (written.text.0, (reply_text (case_after c a) is a, record { run = is; is_run = is_run; text = refl }, written.text.1));
-}
-Answers-written c c' a was is old new before now (Err stop.Memory) was_run is_run same cost written = absurd written.text
-
--- the run that an envelope keeps
-abbrev pub run_of : EnvelopeView → CertView
-run_of v = record { c = v.brakes; e = v.speeds; verdict = v.reach }
-
-pub IsRunOf-scratch : (v : EnvelopeView) → IsLawfulCase (case_in v) → IsFromScratch v → IsRunOf (case_in v) (run_of v)
+-- the run that an envelope keeps is that of its case
+pub IsRunOf-scratch : (v : EnvelopeView) → IsLawfulCase (case_in v) → IsFromScratch v → IsRunOf (case_in v) (run_in v)
 IsRunOf-scratch v law scratch =
     let points = length-caps_under v.line v.stock v.plan v.force in
-    IsRunOf-right v.line v.stock v.plan v.force (run_of v) law.stock.fast law.line.long law.monotone (record { brakes = scratch.brakes; reaches = scratch.reaches; long = rw points scratch.known })
+    IsRunOf-right v.line v.stock v.plan v.force (run_in v) law.stock.fast law.line.long law.monotone (record { brakes = scratch.brakes; reaches = scratch.reaches; long = rw points scratch.known })
 
--- a line that is refused is answered by its code
-pub Answers-refused : (v : EnvelopeView) (code : ℕ) (old new : Told (List ℕ)) (count : ℕ) (result : Result (Unit {0}) Stop) → IsLawfulCase (case_in v) → IsFromScratch v
-    → IsWritten old new (reply_line (reply.Refused code)) result → Answers (case_in v) (case_in v) (Refused code) old new count count result
-Answers-refused v code old new count result law scratch written =
-    let run = IsRunOf-scratch v law scratch in
-    Answers-written (case_in v) (case_in v) (Refused code) (run_of v) (run_of v) old new count count result run run refl (omega arith) written
+-- a line that is refused comes to its code
+pub Comes-refused : (v : EnvelopeView) (code : ℕ) (count : ℕ) → Comes v v (Refused code) (answer.Refused code) count count
+Comes-refused v code count = record { next = refl; answer = refl; cost = omega arith }
 
--- an edit is answered by how far the train gets after it
-case-edited : (a b : EnvelopeView) (zone : Zone) → IsOneCase a b → case_in b ≡ case_after (case_in a) (Edit zone b.force)
-case-edited a b zone one = rw (one.line, one.stock, one.plan) refl
+-- an edit comes to how far the train gets after it
+case-edited : (a b : EnvelopeView) (change : Change) (zone : Zone) → IsOneCase a b → case_in b ≡ case_after (case_in a) (Edit change zone b.force)
+case-edited a b change zone one = rw (one.line, one.stock, one.plan) refl
 
-Answers-edit : (a b : EnvelopeView) (zone : Zone) (old new : Told (List ℕ)) (before now : ℕ) (result : Result (Unit {0}) Stop) → IsLawfulCase (case_in a) → IsFromScratch a → IsFromScratch b → IsOneCase a b
-    → now ≤ before + 35 * (touched_by zone a b + 2) + 1024 → IsWritten old new (reply_line (reply.Made b.reach)) result
-    → Answers (case_in a) (case_in b) (Edit zone b.force) old new before now result
-Answers-edit a b zone old new before now result law scratch after one cost written =
-    let same = case-edited a b zone one in
-    let lawful : IsLawfulCase (case_after (case_in a) (Edit zone b.force)) = record { line = law.line; stock = law.stock; plan = law.plan; monotone = law.monotone } in
-    let run = subst (λ (c : CaseView). IsRunOf c (run_of b)) same (IsRunOf-scratch b (subst IsLawfulCase (sym same) lawful) after) in
-    Answers-written (case_in a) (case_in b) (Edit zone b.force) (run_of a) (run_of b) old new before now result (IsRunOf-scratch a law scratch) run same (omega (arith, cost)) written
+Comes-edit : (a b : EnvelopeView) (change : Change) (zone : Zone) (reach : Reach) (before now : ℕ) → IsOneCase a b → reach ≡ b.reach → now ≤ before + 35 * (touched_by zone a b + 2) + 1024
+    → Comes a b (Edit change zone b.force) (answer.Made change reach) before now
+Comes-edit a b change zone reach before now one gets cost = record { next = case-edited a b change zone one; answer = rw gets refl; cost = omega (arith, cost) }
 
--- so is a put
-pub Answers-put : (a b : EnvelopeView) (id : List ℕ) (zone : Zone) (old new : Told (List ℕ)) (before now : ℕ) (result : Result (Unit {0}) Stop) → IsLawfulCase (case_in a) → IsFromScratch a → IsFromScratch b → IsOneCase a b
-    → put_in id zone a.force ≡ Ok b.force → now ≤ before + 35 * (touched_by zone a b + 2) + 1024 → IsWritten old new (reply_line (reply.Made b.reach)) result
-    → Answers (case_in a) (case_in b) (asked_put zone (put_in id zone a.force)) old new before now result
-Answers-put a b id zone old new before now result law scratch after one put cost written = rw put (Answers-edit a b zone old new before now result law scratch after one cost written)
+pub Comes-put : (a b : EnvelopeView) (id : List ℕ) (zone : Zone) (reach : Reach) (before now : ℕ) → IsOneCase a b → put_in id zone a.force ≡ Ok b.force → reach ≡ b.reach
+    → now ≤ before + 35 * (touched_by zone a b + 2) + 1024 → Comes a b (asked_put zone (put_in id zone a.force)) (answer.Made change.Put reach) before now
+Comes-put a b id zone reach before now one put gets cost = rw put (Comes-edit a b change.Put zone reach before now one gets cost)
 
-pub Answers-put_refused : (a b : EnvelopeView) (id : List ℕ) (zone : Zone) (fault : EditFault) (code : ℕ) (old new : Told (List ℕ)) (before now : ℕ) (result : Result (Unit {0}) Stop) → IsLawfulCase (case_in a) → IsFromScratch a
-    → b ≡ a → now ≡ before → put_in id zone a.force ≡ Err fault → code ≡ code_of_edit fault → IsWritten old new (reply_line (reply.Refused code)) result
-    → Answers (case_in a) (case_in b) (asked_put zone (put_in id zone a.force)) old new before now result
-Answers-put_refused a b id zone fault code old new before now result law scratch same still put is written =
-    rw (same, still, put) (Answers-refused a (code_of_edit fault) old new before result law scratch (rw is at written))
+pub Comes-put_refused : (a b : EnvelopeView) (id : List ℕ) (zone : Zone) (fault : EditFault) (code before now : ℕ) → b ≡ a → now ≡ before → put_in id zone a.force ≡ Err fault → code ≡ code_of_edit fault
+    → Comes a b (asked_put zone (put_in id zone a.force)) (answer.Refused code) before now
+Comes-put_refused a b id zone fault code before now same still put is = rw (same, still, put, is) (Comes-refused a (code_of_edit fault) before)
 
 -- and a take
 taken : (o : Option Zone) (left after : List (List ℕ × Zone)) → ◌≡◌ {A = Result (List (List ℕ × Zone)) EditFault} (if is_some o then Ok left else Err Absent) (Ok after)
@@ -113,63 +72,92 @@ left_alone : (o : Option Zone) (left : List (List ℕ × Zone)) (fault : EditFau
 left_alone None left fault e = let same : Absent ≡ fault = cc in (refl, sym same)
 left_alone (Some z) left fault e = absurd (cc e)
 
-pub Answers-taken : (a b : EnvelopeView) (id : List ℕ) (z : Zone) (old new : Told (List ℕ)) (before now : ℕ) (result : Result (Unit {0}) Stop) → IsLawfulCase (case_in a) → IsFromScratch a → IsFromScratch b → IsOneCase a b
-    → zone_of id a.force ≡ Some z → b.force ≡ without id a.force → now ≤ before + 35 * (touched_by z a b + 2) + 1024 → IsWritten old new (reply_line (reply.Made b.reach)) result
-    → Answers (case_in a) (case_in b) (asked_take (zone_of id a.force) (without id a.force)) old new before now result
-Answers-taken a b id z old new before now result law scratch after one at force cost written =
-    rw (at, ← force) (Answers-edit a b z old new before now result law scratch after one cost written)
+pub Comes-taken : (a b : EnvelopeView) (id : List ℕ) (z : Zone) (reach : Reach) (before now : ℕ) → IsOneCase a b → zone_of id a.force ≡ Some z → b.force ≡ without id a.force → reach ≡ b.reach
+    → now ≤ before + 35 * (touched_by z a b + 2) + 1024 → Comes a b (asked_take (zone_of id a.force) (without id a.force)) (answer.Made change.Take reach) before now
+Comes-taken a b id z reach before now one at force gets cost = rw (at, ← force) (Comes-edit a b change.Take z reach before now one gets cost)
 
-pub Answers-take_refused : (a b : EnvelopeView) (id : List ℕ) (fault : EditFault) (code : ℕ) (old new : Told (List ℕ)) (before now : ℕ) (result : Result (Unit {0}) Stop) → IsLawfulCase (case_in a) → IsFromScratch a
-    → b ≡ a → now ≡ before → take_from id a.force ≡ Err fault → code ≡ code_of_edit fault → IsWritten old new (reply_line (reply.Refused code)) result
-    → Answers (case_in a) (case_in b) (asked_take (zone_of id a.force) (without id a.force)) old new before now result
-Answers-take_refused a b id fault code old new before now result law scratch same still take is written =
+pub Comes-take_refused : (a b : EnvelopeView) (id : List ℕ) (fault : EditFault) (code before now : ℕ) → b ≡ a → now ≡ before → take_from id a.force ≡ Err fault → code ≡ code_of_edit fault
+    → Comes a b (asked_take (zone_of id a.force) (without id a.force)) (answer.Refused code) before now
+Comes-take_refused a b id fault code before now same still take is =
     let absent = left_alone (zone_of id a.force) (without id a.force) fault take in
-    rw (same, still, absent.0) (Answers-refused a (code_of_edit Absent) old new before result law scratch (rw (is, absent.1) at written))
+    rw (same, still, absent.0, is, absent.1) (Comes-refused a (code_of_edit Absent) before)
 
--- the reply to a `time`, by what an envelope tells of the point
-pub time_reply-arrival : (v : EnvelopeView) (i : ℕ) → time_reply (arrival_in v i) ≡ arrival_reply v.plan v.speeds i
-time_reply-arrival v i = elim (cases_Bool (nat_lt i (length v.speeds))) [ inl known ↦ rw known refl | inr past ↦ rw past refl ]
+-- the steps before an answer is written and those then are together those of its line
+all_steps : (c : CaseView) (was is run : CertView) (d : CaseView) (a : Asked) → d.plan ≡ c.plan → first_steps c a was is + last_steps d.plan (answer_to d run a) ≡ line_steps c a was is
+all_steps c was is run d (Edit change zone force) same = omega arith
+all_steps c was is run d (Time point) same = omega arith
+all_steps c was is run d Speeds same = refl
+all_steps c was is run d Timetable same = rw same (omega arith)
+all_steps c was is run d Certificate same = refl
+all_steps c was is run d (Refused code) same = refl
 
--- a timetable is answered by its rows, or by the stall
-pub Answers-times : (v : EnvelopeView) (plan : PlanView) (metres : ℕ) (e : List ℕ) (rows : List Row) (old new : Told (List ℕ)) (before now : ℕ) (result : Result (Unit {0}) Stop) → IsLawfulCase (case_in v)
-    → IsFromScratch v → v.reach ≡ reach.Whole → plan ≡ v.plan → metres ≡ v.line.length → e ≡ v.speeds → rows ≡ rows_of plan metres e → now ≤ before + block_cells * (row_count plan + 2 * section_count plan)
-    → IsWritten old new (timetable_text plan rows) result → Answers (case_in v) (case_in v) Timetable old new before now result
-Answers-times v plan metres e rows old new before now result law scratch whole same points speeds are cost written =
-    let run = IsRunOf-scratch v law scratch in
-    let own : rows ≡ rows_of v.plan v.line.length v.speeds = are ∙ (λ k. rows_of (same k) (points k) (speeds k)) in
-    let text = subst (λ (t : List ℕ). IsWritten old new t result) (λ k. timetable_text (same k) (own k)) written in
-    let steps = subst (λ (p : PlanView). now ≤ before + block_cells * (row_count p + 2 * section_count p)) same cost in
-    Answers-written (case_in v) (case_in v) Timetable (run_of v) (run_of v) old new before now result run run refl steps (rw whole text)
+first-le : (c : CaseView) (a : Asked) (was is : CertView) → first_steps c a was is ≤ line_steps c a was is
+first-le c (Edit change zone force) was is = omega arith
+first-le c (Time point) was is = omega arith
+first-le c Speeds was is = omega arith
+first-le c Timetable was is = omega arith
+first-le c Certificate was is = omega arith
+first-le c (Refused code) was is = omega arith
 
-pub Answers-stall : (v : EnvelopeView) (k : ℕ) (old new : Told (List ℕ)) (count : ℕ) (result : Result (Unit {0}) Stop) → IsLawfulCase (case_in v) → IsFromScratch v
-    → v.reach ≡ reach.Stalled k → IsWritten old new (reach_text (reach.Stalled k)) result → Answers (case_in v) (case_in v) Timetable old new count count result
-Answers-stall v k old new count result law scratch stalled written =
-    let run = IsRunOf-scratch v law scratch in
-    Answers-written (case_in v) (case_in v) Timetable (run_of v) (run_of v) old new count count result run run refl (omega arith) (rw stalled written)
+-- no edit changes the plan
+same_plan : (c : CaseView) (a : Asked) → (case_after c a).plan ≡ c.plan
+same_plan c (Edit change zone force) = refl
+same_plan c (Time point) = refl
+same_plan c Speeds = refl
+same_plan c Timetable = refl
+same_plan c Certificate = refl
+same_plan c (Refused code) = refl
 
--- or it wants memory, and nothing was written
-pub Answers-wanted : (v : EnvelopeView) (old : Told (List ℕ)) (before now : ℕ) → IsLawfulCase (case_in v) → IsFromScratch v → now ≤ before + block_cells * (row_count v.plan + 2 * section_count v.plan)
-    → Answers (case_in v) (case_in v) Timetable old old before now (Err stop.Memory)
-Answers-wanted v old before now law scratch cost =
-    let run = IsRunOf-scratch v law scratch in
-    record {
-      later = omega arith;
-      cost = line_steps (case_in v) Timetable (run_of v) (run_of v);
-      allowed = record { old = run_of v; new = run_of v; was_run = run; is_run = run; is = refl };
-      within = cost;
-      outcome = (tt, Writes-nil old);
-    }
+-- a timetable alone comes to one
+may_want : (c : CaseView) (run : CertView) (a : Asked) → answer_to c run a ≡ answer.Timetable → MayWant a
+may_want c run (Edit change zone force) e = absurd (cc e)
+may_want c run (Time point) e = absurd (cc e)
+may_want c run Speeds e = absurd (cc e)
+may_want c run Timetable e = tt
+may_want c run Certificate e = absurd (cc e)
+may_want c run (Refused code) e = absurd (cc e)
 
--- a line is answered where what it asks for is
-Responds-answered : (c c' : CaseView) (line : List ℕ) (old new : Told (List ℕ)) (before now : ℕ) (result : Result (Unit {0}) Stop) → Answers c c' (asked c line) old new before now result
-    → Responds talk c c' line old new before now result
-Responds-answered c c' line old new before now result a = record { later = a.later; cost = a.cost; allowed = a.allowed; within = a.within; outcome = a.outcome }
+-- what the runs of an envelope before and after a line say of it
+module _ (a b : EnvelopeView) (line : List ℕ) (law : IsLawfulCase (case_in a)) (was : IsFromScratch a) (is : IsFromScratch b) (given : Answer) (before mid : ℕ)
+    (comes : Comes a b (asked (case_in a) line) given before mid) where
+  abbrev asks : Asked
+  asks = asked (case_in a) line
 
-pub Responds-refused : (v : EnvelopeView) (c : CaseView) (line : List ℕ) (metres : ℕ) (fault : CommandFault) (code : ℕ) (old new : Told (List ℕ)) (count : ℕ) (result : Result (Unit {0}) Stop) → case_in v ≡ c
-    → IsLawfulCase c → IsFromScratch v → metres ≡ v.line.length → command_of metres line ≡ Err fault → code ≡ code_of_line fault → IsWritten old new (reply_line (reply.Refused code)) result
-    → Responds talk c c line old new count count result
-Responds-refused v c line metres fault code old new count result same law scratch length command is written =
-    let refused : command_of v.line.length line ≡ Err fault = rw length at command in
-    let lawful = subst IsLawfulCase (sym same) law in
-    let answers = Answers-refused v (code_of_line fault) old new count result lawful scratch (rw is at written) in
-    subst (λ (s : CaseView). Responds talk s s line old new count count result) same (Responds-answered (case_in v) (case_in v) line old new count count result (rw refused answers))
+  after_run : IsRunOf (case_after (case_in a) asks) (run_in b)
+  after_run = subst (λ (c : CaseView). IsRunOf c (run_in b)) comes.next (IsRunOf-scratch b (subst IsLawfulCase (sym comes.next) (stays (case_in a) line law)) is)
+
+  pub comes_to : ComesTo (case_in a) (case_in b) asks given before mid
+  comes_to = record {
+    next = comes.next;
+    was = run_in a;
+    is = run_in b;
+    was_run = IsRunOf-scratch a law was;
+    is_run = after_run;
+    answer = rw comes.next at comes.answer;
+    cost = omega (arith, comes.cost, first-le (case_in a) asks (run_in a) (run_in b));
+  }
+
+  allowed : MayTake (case_in a) asks (line_steps (case_in a) asks (run_in a) (run_in b))
+  allowed = record { old = run_in a; new = run_in b; was_run = IsRunOf-scratch a law was; is_run = after_run; is = refl }
+
+  replied : (t : List ℕ) → t ≡ reply_text (case_in b) (run_in b) asks → Replies (case_in a) asks t
+  replied t text = record { run = run_in b; is_run = after_run; text = rw comes.next at text }
+
+  outcome : (old new : Told (List ℕ)) (result : Result (Unit {0}) Stop) → WritesBy given old new (reply_text (case_in b) (run_in b) asks) result
+      → RespondsBy talk (case_in a) (case_in b) asks old new result
+  outcome old new (Ok u) text = (comes.next, (reply_text (case_in b) (run_in b) asks, replied _ refl, text))
+  outcome old new (Err stop.Write) text = (text.0, (reply_text (case_in b) (run_in b) asks, replied _ refl, text.1))
+  outcome old new (Err stop.Memory) text = (may_want (case_in b) (run_in b) asks (sym comes.answer ∙ text.0), text.1)
+
+  -- a line is answered where the answer that it has come to is written
+  pub responds : (old new : Told (List ℕ)) (now : ℕ) (result : Result (Unit {0}) Stop) → Tells b given old new mid now result → Responds talk (case_in a) (case_in b) line old new before now result
+  responds old new now result tells =
+      let plan : b.plan ≡ a.plan = ap (λ (c : CaseView). c.plan) comes.next ∙ same_plan (case_in a) asks in
+      let cost = subst (λ (x : Answer). now ≤ mid + last_steps b.plan x) comes.answer tells.cost in
+      record {
+        later = tells.written.later;
+        cost = line_steps (case_in a) asks (run_in a) (run_in b);
+        allowed = allowed;
+        within = omega (arith, comes.cost, cost, all_steps (case_in a) (run_in a) (run_in b) (run_in b) (case_in b) asks plan);
+        outcome = outcome old new result (subst (λ (x : Answer). WritesBy given old new (answer_text (case_in b) (run_in b) x) result) comes.answer tells.written.text);
+      }

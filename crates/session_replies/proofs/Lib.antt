@@ -1,3 +1,5 @@
 pub mod RowFacts
 mod RoomFacts
 mod AnswerFacts
+mod TimesFacts
+mod SumFacts

@@ -11,11 +11,13 @@ use Rattle.restrictions.specs.declared.force.EditFault.{EditFault}
 use Rattle.restrictions.specs.declared.force.EditFault.TheVariants.{Absent}
 use Rattle.unit_rules.specs.declared.Zone.{Zone}
 use Rattle.session_replies.specs.Cases.{CaseView}
+use Rattle.session_replies.specs.declared.answers.Change.{Change}
+use Rattle.session_replies.specs.declared.answers.Change.TheVariants as change
 
--- an edit that is accepted, with its zone and what is in force after it; when the train comes to a point; the speeds, the
+-- an edit that is accepted, with what it does, its zone and what is in force after it; when the train comes to a point; the speeds, the
 -- timetable or the certificate of its run; or nothing, where the line is refused, by its code
 pub data Asked : Type 0 where
-  Edit : Zone → List (List ℕ × Zone) → Asked
+  Edit : Change → Zone → List (List ℕ × Zone) → Asked
   Time : ℕ → Asked
   Speeds : Asked
   Timetable : Asked
@@ -28,12 +30,12 @@ unknown_point = 7
 
 -- what a `put` of a zone asks for, by what is in force after it
 abbrev pub asked_put : Zone → Result (List (List ℕ × Zone)) EditFault → Asked
-asked_put zone (Ok force) = Edit zone force
+asked_put zone (Ok force) = Edit change.Put zone force
 asked_put zone (Err fault) = Refused (code_of_edit fault)
 
 -- what a `take` asks for, by the zone that it takes out and by what is in force without it
 abbrev pub asked_take : Option Zone → List (List ℕ × Zone) → Asked
-asked_take (Some zone) force = Edit zone force
+asked_take (Some zone) force = Edit change.Take zone force
 asked_take None force = Refused (code_of_edit Absent)
 
 -- what a `time` asks for, by the position of its point
@@ -61,5 +63,5 @@ asked c line = asked_in c line (command_of c.line.length line)
 
 -- the case after it: an edit changes what is in force, and nothing else changes anything
 abbrev pub case_after : CaseView → Asked → CaseView
-case_after c (Edit zone force) = record c { force = force }
+case_after c (Edit change zone force) = record c { force = force }
 case_after c _ = c

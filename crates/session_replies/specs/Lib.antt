@@ -3,6 +3,7 @@ pub mod Cases
 pub mod Asked
 pub mod Runs
 pub mod Replies
+pub mod Summaries
 -- what the layers of the crate say to each other
 pub mod Room
 pub mod Answered

@@ -6,7 +6,12 @@ use Rattle.cert_check.specs.Laws.{IsCertificateOf}
 use Rattle.cert_check.specs.Rules.{IsCertified}
 use Rattle.certificate.specs.Texts.{CertView, IsCert}
 use Rattle.run_rules.specs.Runs.{Keeps}
+use Rattle.incr_envelope.specs.Envelope.{EnvelopeView}
 use Rattle.session_replies.specs.Cases.{CaseView, caps_of, rule_of}
+
+-- the run that an envelope keeps
+abbrev pub run_in : EnvelopeView → CertView
+run_in v = record { c = v.brakes; e = v.speeds; verdict = v.reach }
 
 -- no train of the case that gets to the last of the first `points` points comes to one of them sooner than e does, by either
 -- end of its arrival

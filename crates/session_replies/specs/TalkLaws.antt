@@ -21,14 +21,14 @@ alike c a b long other = rw (lt-ltb most_bytes (length a) long, lt-ltb most_byte
 
 -- a case is lawful by its line, stock and plan, which no line changes
 case_after-lawful : (c : CaseView) (a : Asked) → IsLawfulCase c → IsLawfulCase (case_after c a)
-case_after-lawful c (Edit zone force) law = record { line = law.line; stock = law.stock; plan = law.plan; monotone = law.monotone }
+case_after-lawful c (Edit change zone force) law = record { line = law.line; stock = law.stock; plan = law.plan; monotone = law.monotone }
 case_after-lawful c (Time point) law = law
 case_after-lawful c Speeds law = law
 case_after-lawful c Timetable law = law
 case_after-lawful c Certificate law = law
 case_after-lawful c (Refused code) law = law
 
-stays : (c : CaseView) (line : List ℕ) → IsLawfulCase c → IsLawfulCase (case_after c (asked c line))
+pub stays : (c : CaseView) (line : List ℕ) → IsLawfulCase c → IsLawfulCase (case_after c (asked c line))
 stays c line law = case_after-lawful c (asked c line) law
 
 -- a lawful case has its run

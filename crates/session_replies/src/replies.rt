@@ -1,12 +1,14 @@
 //! What is written for a line.
 
-ghost use Rattle.std.specs.Prelude.{◌≡◌, ℕ};
+ghost use Rattle.std.specs.Prelude.{◌≡◌, ◌≤◌, ◌+◌};
 ghost use Rattle.report_text.specs.Replies.{reply_line};
-ghost use Rattle.session_replies.specs.Answered.{Answers, IsWritten, replied_by};
-ghost use Rattle.session_replies.specs.Asked.Asked.{Certificate, Speeds, Timetable};
+ghost use Rattle.session_replies.specs.Answered.{IsWritten, Tells, last_steps, replied_by};
 ghost use Rattle.session_replies.specs.Cases.{IsLawfulCase, case_in};
+ghost use Rattle.session_replies.specs.Replies.{answer_text, time_reply, times_text};
 ghost use Rattle.session_replies.specs.Room.{HasRoom};
+ghost use Rattle.session_replies.specs.Runs.{run_in};
 
+use crate::answers::Answer;
 use allowances::planned;
 use certificate::write_cert;
 use incr_envelope::Envelope;
@@ -15,56 +17,80 @@ use run_io::{Failed, Sink};
 use session_lines::Stop;
 use std::alloc::Global;
 use std::sync::ledger::Ledger;
+use time_brackets::Bracket;
 use unit_rules::{Reach, Steps};
 
-/// Writes the code of a line that is refused.
-pub(crate) fn refuse<K: Sink>(code: u32, out: &mut K) -> Result<(), Stop>
-    ensures { IsWritten (K.told out.old) (K.told out.new)
-        (reply_line (Reply.Refused code)) result }
-{
-    reply(Reply::Refused(code), out)
-}
-
-/// Writes a reply of one line.
-pub(crate) fn reply<K: Sink>(reply: Reply, out: &mut K) -> Result<(), Stop>
-    ensures { IsWritten (K.told out.old) (K.told out.new) (reply_line reply) result }
-{
-    replied(write_reply(out, reply))
-}
-
-/// Writes the squared speeds of the run, or its stall.
-pub(crate) fn write_speeds<K: Sink>(envelope: &Envelope, out: &mut K) -> Result<(), Stop>
-    requires lawful { IsLawfulCase (case_in envelope.now) }
-    requires kept { HasRoom envelope.now }
-    ensures { (count : ℕ) → Answers (case_in envelope.now) (case_in envelope.now) Speeds
-        (K.told out.old) (K.told out.new) count count result }
-{
-    let (speeds, reach) = (envelope.speeds(), envelope.reach());
-    replied(write_envelope(out, speeds, reach))
-}
-
-/// Writes the certificate of the run.
-pub(crate) fn write_run<K: Sink>(envelope: &Envelope, out: &mut K) -> Result<(), Stop>
-    requires lawful { IsLawfulCase (case_in envelope.now) }
-    requires kept { HasRoom envelope.now }
-    ensures { (count : ℕ) → Answers (case_in envelope.now) (case_in envelope.now)
-        Certificate (K.told out.old) (K.told out.new) count count result }
-{
-    let (brakes, speeds, reach) = (envelope.brake_list(), envelope.speeds(), envelope.reach());
-    replied(write_cert(brakes, speeds, reach, out))
-}
-
-/// Writes the timetable of the run, or its stall.
-pub(crate) fn write_times<K: Sink, L: Ledger>(
+/// Writes the answer that a line of the session of an envelope has come to.
+pub(crate) fn write_answer<K: Sink, L: Ledger>(
     alloc: Global,
     envelope: &Envelope,
+    answer: Answer,
     out: &mut K,
     steps: &mut Steps<L>,
 ) -> Result<(), Stop>
     requires lawful { IsLawfulCase (case_in envelope.now) }
     requires kept { HasRoom envelope.now }
-    ensures { Answers (case_in envelope.now) (case_in envelope.now) Timetable
-        (K.told out.old) (K.told out.new) steps.old steps.new result }
+    ensures { Tells envelope.now answer (K.told out.old) (K.told out.new)
+        steps.old steps.new result }
+{
+    match answer {
+        Answer::Made(_, reach) => reply(Reply::Made(reach), out),
+        Answer::Time(arrival) => reply(time_reply(arrival), out),
+        Answer::Speeds => write_speeds(envelope, out),
+        Answer::Timetable => write_times(alloc, envelope, out, steps),
+        Answer::Certificate => write_run(envelope, out),
+        Answer::Refused(code) => reply(Reply::Refused(code), out),
+    }
+}
+
+// Writes a reply of one line.
+fn reply<K: Sink>(reply: Reply, out: &mut K) -> Result<(), Stop>
+    ensures { (answer : Answer) → IsWritten answer (K.told out.old) (K.told out.new)
+        (reply_line reply) result }
+{
+    replied(write_reply(out, reply))
+}
+
+// The reply to a `time`, by when the train comes to the point.
+fn time_reply(arrival: Option<Bracket>) -> Reply
+    ensures { result ≡ time_reply arrival }
+{
+    match arrival {
+        Some(bracket) => Reply::Time(bracket),
+        None => Reply::NoTime,
+    }
+}
+
+// Writes the squared speeds of the run, or its stall.
+fn write_speeds<K: Sink>(envelope: &Envelope, out: &mut K) -> Result<(), Stop>
+    ensures { IsWritten Answer.Speeds (K.told out.old) (K.told out.new)
+        (answer_text (case_in envelope.now) (run_in envelope.now) Answer.Speeds) result }
+{
+    let (speeds, reach) = (envelope.speeds(), envelope.reach());
+    replied(write_envelope(out, speeds, reach))
+}
+
+// Writes the certificate of the run.
+fn write_run<K: Sink>(envelope: &Envelope, out: &mut K) -> Result<(), Stop>
+    requires lawful { IsLawfulCase (case_in envelope.now) }
+    requires kept { HasRoom envelope.now }
+    ensures { IsWritten Answer.Certificate (K.told out.old) (K.told out.new)
+        (answer_text (case_in envelope.now) (run_in envelope.now) Answer.Certificate) result }
+{
+    let (brakes, speeds, reach) = (envelope.brake_list(), envelope.speeds(), envelope.reach());
+    replied(write_cert(brakes, speeds, reach, out))
+}
+
+// Writes the timetable of the run, or its stall.
+fn write_times<K: Sink, L: Ledger>(
+    alloc: Global,
+    envelope: &Envelope,
+    out: &mut K,
+    steps: &mut Steps<L>,
+) -> Result<(), Stop>
+    requires kept { HasRoom envelope.now }
+    ensures { Tells envelope.now Answer.Timetable (K.told out.old) (K.told out.new)
+        steps.old steps.new result }
 {
     match envelope.reach() {
         Reach::Whole => write_rows(alloc, envelope, out, steps),
@@ -79,11 +105,10 @@ fn write_rows<K: Sink, L: Ledger>(
     out: &mut K,
     steps: &mut Steps<L>,
 ) -> Result<(), Stop>
-    requires lawful { IsLawfulCase (case_in envelope.now) }
     requires kept { HasRoom envelope.now }
     requires whole { envelope.now.reach ≡ Reach.Whole }
-    ensures { Answers (case_in envelope.now) (case_in envelope.now) Timetable
-        (K.told out.old) (K.told out.new) steps.old steps.new result }
+    ensures { Tells envelope.now Answer.Timetable (K.told out.old) (K.told out.new)
+        steps.old steps.new result }
 {
     let length = envelope.line().length();
     let (plan, sums, speeds) = (envelope.plan(), envelope.sums(), envelope.speeds());

@@ -3,7 +3,7 @@
 ghost use Rattle.std.specs.Prelude.{◌≡◌, IfOk};
 ghost use Rattle.session_replies.specs.Cases.{IsLawfulCase};
 
-use crate::Session;
+use crate::{Session, Summary, Tally, summarize};
 use line_tables::read_line;
 use plan_tables::read_plan;
 use run_io::{MemSink, MemSource};
@@ -14,6 +14,7 @@ use std::process::Abort;
 use std::sync::ledger::{Blank, Ledger};
 use std::test::Fail;
 use stock_tables::read_stock;
+use time_brackets::Bracket;
 use unit_rules::Steps;
 
 // On the level full effort adds 20000 to its squared speed in each metre, and its brakes take 25920.
@@ -102,6 +103,116 @@ fn replies_so(rt: &impl Abort, alloc: Global, case: &Case) -> Result<bool, Fail>
 fn small_sessions(rt: HostRuntime) -> Result<(), Fail> {
     for place in 0..CASES.len() {
         assert!(rt; replies_so(&rt, rt.alloc(), &CASES[place])?, "case {place}");
+    }
+    Ok(())
+}
+
+// The summary of what is said over a line.
+fn summed<L: Ledger>(
+    rt: &impl Abort,
+    alloc: Global,
+    line: &[u8],
+    said: &[u8],
+    blank: Blank,
+) -> Result<Summary, Fail>
+    requires name { blank.name ≡ L.name }
+    requires parts { blank.parts ≡ L.parts }
+    requires one { blank.parts ≡ 1 }
+{
+    let mut steps = Steps::<L>::new(blank);
+    let mut session = opened(rt, alloc, line, &mut steps)?;
+    Ok(summarize(&mut session, said, &mut steps))
+}
+
+// What is said over a line, and its summary.
+type Sum = (&'static [u8], &'static [u8], Summary);
+
+const SUMS: [Sum; 4] = [
+    (
+        TWO,
+        b"",
+        Summary {
+            points: 3,
+            commands: 0,
+            tally: Tally {
+                puts: 0,
+                takes: 0,
+                times: 0,
+                stalls: 0,
+            },
+            last: Some(Bracket {
+                lo: 10_182_291_298,
+                hi: 10_182_363_300,
+            }),
+        },
+    ),
+    // The last command is an edit, and counts for the last arrival.
+    (
+        TWO,
+        b"time End\nput a 0 2 1",
+        Summary {
+            points: 3,
+            commands: 2,
+            tally: Tally {
+                puts: 1,
+                takes: 0,
+                times: 1,
+                stalls: 0,
+            },
+            last: Some(Bracket {
+                lo: 14_400_000_000,
+                hi: 14_400_000_000,
+            }),
+        },
+    ),
+    // Lines that are refused are counted as commands alone, and other questions too.
+    (
+        TWO,
+        b"put a 0 2 1\r\nput a 0 1 1\ntake b\ntake a\ntime Nowhere\ncert\n\nwhat\n",
+        Summary {
+            points: 3,
+            commands: 8,
+            tally: Tally {
+                puts: 1,
+                takes: 1,
+                times: 0,
+                stalls: 0,
+            },
+            last: Some(Bracket {
+                lo: 10_182_291_298,
+                hi: 10_182_363_300,
+            }),
+        },
+    ),
+    // A stall: a time that isn't known is counted as one that was asked for.
+    (
+        HILL,
+        b"put slow 40 41 5\ntime High\ntake slow\ntime Mid\ntake slow\n",
+        Summary {
+            points: 1001,
+            commands: 5,
+            tally: Tally {
+                puts: 1,
+                takes: 1,
+                times: 2,
+                stalls: 2,
+            },
+            last: None,
+        },
+    ),
+];
+
+// Whether what is said in a case has the summary.
+fn sums_so(rt: &impl Abort, alloc: Global, case: &Sum) -> Result<bool, Fail> {
+    let (line, said, wanted) = *case;
+    let sum = summed::<Brand>(rt, alloc, line, said, Blank::new(1))?;
+    Ok(sum == wanted)
+}
+
+#[test]
+fn summaries(rt: HostRuntime) -> Result<(), Fail> {
+    for place in 0..SUMS.len() {
+        assert!(rt; sums_so(&rt, rt.alloc(), &SUMS[place])?, "case {place}");
     }
     Ok(())
 }
