@@ -25,6 +25,7 @@ use Rattle.session_lines.specs.Lines.{whole_lines}
 use Rattle.session_replies.specs.Asked.{Asked, case_after}
 use Rattle.session_replies.specs.Cases.{CaseView, caps_of, case_of, rule_of}
 use Rattle.session_replies.specs.Replies.{reply_text, talk}
+use Rattle.session_replies.specs.Runs.{IsRunOf}
 use Rattle.unit_rules.specs.Limits.{most_bytes}
 use Rattle.run_files.specs.Files.{cert_reading, edits_reading, line_reading, plan_reading, stock_reading, table_in}
 use Rattle.run_cli.specs.Check.{IsChecked}
@@ -49,7 +50,7 @@ some_or : {T : Type 0} → T → Option T → T
 some_or d None = d
 some_or d (Some x) = x
 
-Some-same : {T : Type 0} (o : Option T) (x y : T) → o ≡ Some x → o ≡ Some y → x ≡ y
+pub Some-same : {T : Type 0} (o : Option T) (x y : T) → o ≡ Some x → o ≡ Some y → x ≡ y
 unfolding some_or
 Some-same o x y e f = ap (some_or x) (sym e ∙ f)
 
@@ -151,15 +152,20 @@ plan_answer-once print.Envelope table train plan force = IsEnvelope-once table t
 plan_answer-once print.Timetable table train plan force = IsTimetable-once table train plan force
 plan_answer-once print.Cert table train plan force = ShowsCertificate-once table train plan force
 
+-- a case has one run at most
+pub run_once : (c : CaseView) (r q : CertView) → IsRunOf c r → IsRunOf c q → r ≡ q
+run_once c r q is_run is_run' =
+    let x = caps_of c in
+    let rule = rule_of c in
+    let list = brakes_once rule x r.c q.c is_run.right.brakes is_run'.right.brakes in
+    let rest = reaches_once rule x r.e q.e r.verdict q.verdict is_run.right.reaches is_run.right.long is_run'.right.reaches is_run'.right.long in
+    λ k. record { c = list k; e = rest.0 k; verdict = rest.1 k }
+
 -- a line has one reply at most in a case, and so have lines one after another
 reply-once : (c : CaseView) (a : Asked) (t u : List ℕ) → talk.replies c a t → talk.replies c a u → t ≡ u
 reply-once c a t u r q =
     let after = case_after c a in
-    let x = caps_of after in
-    let rule = rule_of after in
-    let list = brakes_once rule x r.run.c q.run.c r.is_run.right.brakes q.is_run.right.brakes in
-    let rest = reaches_once rule x r.run.e q.run.e r.run.verdict q.run.verdict r.is_run.right.reaches r.is_run.right.long q.is_run.right.reaches q.is_run.right.long in
-    r.text ∙ (λ k. reply_text after (record { c = list k; e = rest.0 k; verdict = rest.1 k }) a) ∙ sym q.text
+    r.text ∙ ap (λ (run : CertView). reply_text after run a) (run_once after r.run q.run r.is_run q.is_run) ∙ sym q.text
 
 replies-once : (c : CaseView) (lines : List (List ℕ)) (t u : List ℕ) → Replies talk c lines t → Replies talk c lines u → t ≡ u
 replies-once c [] t u r q = r ∙ sym q

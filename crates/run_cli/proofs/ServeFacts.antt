@@ -90,6 +90,17 @@ Serves-worked m shelf shelf' input out out' before now s table form loads works 
     accepted : IfSome shelf.holds (λ files. refusal files (m.reads (Some files)) ≡ None)
     accepted = IfSome-at shelf.holds (λ o files. refusal files (m.reads o) ≡ None) loads.loaded
 
+    fronts : Writes out out' [] ⊎ IfSome shelf.holds (λ files. EndsShort (m.answers files []) out out')
+        → IfSome shelf.holds (λ files. EndsBy cut m files [] (outside shelf input out) (outside shelf' input out') WriteFault)
+    fronts (inl nothing) = IfSome-all shelf.holds _ (λ files. inl nothing)
+    fronts (inr short) =
+        IfSome-both shelf.holds _ _ _ (λ files none h. inr (record {
+          status = h.status;
+          text = h.text;
+          answer = Answers-accepted m files [] h.status h.text none h.answer;
+          written = h.written;
+        })) accepted short
+
     steps : (r : Status) → TakesSteps m (outside shelf input out) (outside shelf' input out') before now
     steps r = record { taken = []; took = Consumes-none input.holds; cost = works.cost; allowed = works.allowed; within = works.steps }
 
@@ -106,12 +117,7 @@ Serves-worked m shelf shelf' input out out' before now s table form loads works 
     by s (inr (inl (is, rose, short))) =
         subst (λ (r : Status). Serves m (outside shelf input out) (outside shelf' input out') before now r) (sym is) (record {
           ends = WhereTold-files m (outside shelf input out) (λ files i. EndsBy cut m files i (outside shelf input out) (outside shelf' input out') WriteFault) form.no_input
-              (IfSome-both shelf.holds _ _ _ (λ files none h. inr (record {
-                status = h.status;
-                text = h.text;
-                answer = Answers-accepted m files [] h.status h.text none h.answer;
-                written = h.written;
-              })) accepted short);
+              (fronts short);
           causes = rose;
           complete = λ quiet. absurd (IsQuiet-Rose out out' rose quiet.out);
           takes = rw form.no_input refl;
@@ -135,6 +141,18 @@ Serves-worked m shelf shelf' input out out' before now s table form loads works 
       steps = steps s;
     }
 
+-- a form that reads nothing at all is served by its work
+pub Serves-served : (m : Meaning) (shelf : Told Files) (input out out' : Told (List ℕ)) (before now : ℕ) (s : Status) → IsFileForm m → m.reads shelf.holds ≡ []
+    → Works m shelf.holds out out' before now s → Serves m (outside shelf input out) (outside shelf input out') before now s
+Serves-served m shelf input out out' before now s form none works =
+    let loads : Loads {T = Unit {0}} (m.reads shelf.holds) shelf shelf (Ok (tt {0})) = record {
+      same = refl;
+      later = omega arith;
+      loaded = IfSome-all shelf.holds _ (λ files. rw none refl);
+      stopped = tt;
+    } in
+    Serves-worked {T = Unit {0}} m shelf shelf input out out' before now s (tt {0}) form loads works
+
 -- work over tables ended with its whole text
 pub Works-done : (m : Meaning) (told : Option Files) (out out' : Told (List ℕ)) (before now cost : ℕ) (meant s : Status) (text : List ℕ) → s ≡ meant → IsMeant m told meant text → Writes out out' text
     → m.steps told [] cost → now ≤ before + cost → Works m told out out' before now s
@@ -150,7 +168,7 @@ Works-done m told out out' before now cost meant s text e is written allowed ste
 pub Works-short : (m : Meaning) (told : Option Files) (out out' : Told (List ℕ)) (before now cost : ℕ) (meant : Status) (text : List ℕ) → IsMeant m told meant text → WritesFront out out' text → Rose out out'
     → m.steps told [] cost → now ≤ before + cost → Works m told out out' before now WriteFault
 Works-short m told out out' before now cost meant text is written rose allowed steps = record {
-  ends = inr (inl (refl, rose, IfSome-along told _ _ (λ files a. record { status = meant; text = text; answer = a; written = written }) is.answers));
+  ends = inr (inl (refl, rose, inr (IfSome-along told _ _ (λ files a. record { status = meant; text = text; answer = a; written = written }) is.answers)));
   cost = cost;
   allowed = allowed;
   steps = steps;

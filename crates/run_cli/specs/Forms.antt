@@ -1,12 +1,13 @@
 -- What each form means.
 use Rattle.std.specs.Prelude.{ℕ, List, Option, Some, None}
 use Rattle.run_words.specs.Requests.{Request, case_names, request_of}
-use Rattle.run_words.specs.Requests.Request.{Caps, Stock, Rise, Brakes, Envelope, Plan, Check, Session}
+use Rattle.run_words.specs.Requests.Request.{Caps, Stock, Rise, Brakes, Envelope, Plan, Check, Session, Gen}
 use Rattle.run_cli.specs.Brakes.{brakes_meaning}
 use Rattle.run_cli.specs.Caps.{caps_meaning}
 use Rattle.run_cli.specs.Check.{check_meaning}
 use Rattle.run_cli.specs.Envelope.{envelope_meaning}
 use Rattle.run_cli.specs.FileForms.{no_form}
+use Rattle.run_cli.specs.Gen.{gen_meaning}
 use Rattle.run_cli.specs.Meanings.{AnswersOnce, Meaning}
 use Rattle.run_cli.specs.Plan.{plan_meaning}
 use Rattle.run_cli.specs.Rise.{rise_meaning}
@@ -23,6 +24,7 @@ meaning_of (Some (Envelope line stock)) = envelope_meaning line stock
 meaning_of (Some (Plan names kind)) = plan_meaning kind names
 meaning_of (Some (Check names cert)) = check_meaning names cert
 meaning_of (Some (Session line stock plan)) = session_meaning (case_names line stock plan None)
+meaning_of (Some (Gen number)) = gen_meaning number
 
 -- what the words of a command line mean
 abbrev pub meant_by : List (List ℕ) → Meaning

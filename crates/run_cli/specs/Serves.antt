@@ -34,11 +34,11 @@ pub record IsMeant (m : Meaning) (told : Option Files) (s : Status) (t : List �
   pub is_whole : extent_of s ≡ whole
   pub may_end : m.may_end s
 
--- how the work over tables may end: for want of memory, by a fault of the sink, or with a whole text
+-- how the work over tables may end: for want of memory, by a fault of the sink before or in a text, or with a whole text
 abbrev pub WorkEnds : Meaning → Option Files → Told (List ℕ) → Told (List ℕ) → Status → Type 0
 WorkEnds m told old new s =
     ((s ≡ Memory) × Writes old new [])
-    ⊎ ((s ≡ WriteFault) × Rose old new × IfSome told (λ files. EndsShort (m.answers files []) old new))
+    ⊎ ((s ≡ WriteFault) × Rose old new × (Writes old new [] ⊎ IfSome told (λ files. EndsShort (m.answers files []) old new)))
     ⊎ ((extent_of s ≡ whole) × m.may_end s × IfSome told (λ files. EndsWhole (m.answers files []) s old new))
 
 pub record Works (m : Meaning) (told : Option Files) (old new : Told (List ℕ)) (before now : ℕ) (s : Status) : Type 0 where

@@ -16,6 +16,7 @@ mod cert_report;
 mod check;
 mod envelope;
 mod form;
+mod made;
 mod plan;
 mod report;
 mod rise;
@@ -25,7 +26,9 @@ mod stock;
 mod timetable_report;
 
 use crate::form::{refuse, serve};
+use crate::made::serve_made;
 use crate::session::serve_session;
+pub use made_cases::{Made, make_case};
 pub use run_files::Status;
 use run_io::{Shelf, Sink, Source};
 use run_words::{Request, read_request};
@@ -119,5 +122,6 @@ fn serve_request<S: Shelf, I: Source, K: Sink, L: Ledger>(
         Request::Plan(form) => serve(alloc, &form, shelf, input, out, steps),
         Request::Check(form) => serve(alloc, &form, shelf, input, out, steps),
         Request::Session(form) => serve_session(alloc, &form, shelf, input, out, steps),
+        Request::Gen(form) => serve_made(alloc, &form, out, steps),
     }
 }

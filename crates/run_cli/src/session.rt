@@ -1,11 +1,11 @@
 //! The form `session`: a reply to each line of the input, over a train on a line by a plan.
 
-ghost use Rattle.std.specs.Prelude.{[], Some};
+ghost use Rattle.std.specs.Prelude.{◌≡◌, ◌≤◌, ◌+◌, ◌*◌, [], IfOk, Some};
 ghost use Rattle.run_cli.specs.Ends.{outside};
 ghost use Rattle.run_cli.specs.Forms.{meaning_of};
 ghost use Rattle.run_cli.specs.Serves.{Closes, Holds, IsServed};
 ghost use Rattle.run_words.specs.Requests.{session_view};
-ghost use Rattle.session_replies.specs.Cases.{case_of};
+ghost use Rattle.session_replies.specs.Cases.{IsLawfulCase, case_of};
 
 use crate::form::refuse;
 use run_files::{Case, INPUT, Status, load_case};
@@ -15,7 +15,7 @@ use session_lines::{Ending, answer_lines};
 use session_replies::Session;
 use std::alloc::Global;
 use std::sync::ledger::Ledger;
-use unit_rules::Steps;
+use unit_rules::{Memory, Steps};
 
 /// Serves a session. Its files are read, and all memory but that of timetables is taken, before the
 /// first byte of the input.
@@ -55,16 +55,29 @@ fn hold<I: Source, K: Sink, L: Ledger>(
     ensures { Holds (case_of case.line case.stock case.plan []) (I.told input.old)
         (I.told input.new) (K.told out.old) (K.told out.new) steps.old steps.new result }
 {
+    match open_session(alloc, case, steps) {
+        Ok(mut session) => close(answer_lines(&mut session, input, out, steps), out),
+        Err(Memory) => Status::Memory,
+    }
+}
+
+/// Opens a session over a case, in which nothing is in force at first.
+pub(crate) fn open_session<L: Ledger>(
+    alloc: Global,
+    case: Case,
+    steps: &mut Steps<L>,
+) -> Result<Session, Memory>
+    ensures case { IfOk result (λ s. s ≡ case_of case.line case.stock case.plan []) }
+    ensures law { IfOk result IsLawfulCase }
+    ensures cost { steps.new ≤ steps.old + 35 * (case.line.length + 1) }
+{
     let Case {
         line,
         stock,
         plan,
         ..
     } = case;
-    let Ok(mut session) = Session::new(alloc, line, stock, plan, steps) else {
-        return Status::Memory;
-    };
-    close(answer_lines(&mut session, input, out, steps), out)
+    Session::new(alloc, line, stock, plan, steps)
 }
 
 // Tells the end of a session.

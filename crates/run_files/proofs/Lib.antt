@@ -1,2 +1,3 @@
 pub mod ToldFacts
 mod LoadFacts
+mod TextFacts

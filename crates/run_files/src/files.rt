@@ -1,6 +1,7 @@
 //! The files that a form reads: fetched by name, and read by the reader of their kind.
 
-ghost use Rattle.std.specs.Prelude.{◌≡◌, ◌≤◌, ◌∷◌, ℕ, List, [], Err, IfOk, None, Some};
+ghost use Rattle.std.specs.Prelude.{◌≡◌, ◌≤◌, ◌∷◌, ℕ, List, [], Err, IfErr, IfOk, None, Some};
+ghost use Rattle.run_files.specs.CaseTexts.{IsCaseOf, StopsTexts};
 ghost use Rattle.run_files.specs.Files.{AreInForce, IsCase, IsClaim, IsRead, Reading, case_files, cert_reading, claim_files, edits_reading, file_read, line_file, line_reading, plan_reading, stock_file, stock_reading};
 ghost use Rattle.run_files.specs.Loads.{AsksOnce, Fetched, Loads, MayRefuse, edits_read, file_named, name_in};
 ghost use Rattle.run_files.specs.ReaderLaws.{cert_refuses, edits_refuses, line_refuses, plan_refuses, stock_refuses};
@@ -203,6 +204,23 @@ pub fn load_case<S: Shelf>(
         stock,
         plan,
         force,
+    })
+}
+
+/// The case of the texts of a line file, a stock file and a plan file, which are read in this order.
+/// Nothing is in force in it.
+pub fn read_case(alloc: Global, line: &[u8], stock: &[u8], plan: &[u8]) -> Result<Case, Status>
+    ensures read { IfOk result (λ c. IsCaseOf line.now stock.now plan.now c.line c.stock c.plan) }
+    ensures stops { IfErr result (StopsTexts line.now stock.now plan.now) }
+{
+    let line = LineReader.read(alloc, line)?;
+    let stock = StockReader.read(alloc, stock)?;
+    let plan = PlanReader { line: &line }.read(alloc, plan)?;
+    Ok(Case {
+        line,
+        stock,
+        plan,
+        force: InForce::new(alloc),
     })
 }
 

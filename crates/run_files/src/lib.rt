@@ -8,5 +8,5 @@ mod files;
 mod status;
 
 pub use cases::{Case, Claim};
-pub use files::{INPUT, load_both, load_case, load_claim, load_line, load_stock};
+pub use files::{INPUT, load_both, load_case, load_claim, load_line, load_stock, read_case};
 pub use status::Status;

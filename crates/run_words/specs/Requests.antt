@@ -4,12 +4,14 @@ use Rattle.std.specs.Prelude.{codes, if◌then◌else◌, option_map}
 use Rattle.std.specs.Str.{bytes_eq}
 use Rattle.unit_rules.specs.Limits.{greatest_speed, longest_train}
 use Rattle.clap.specs.Words.{App, Row, Text, first_of}
+use Rattle.run_words.specs.Limits.{most_seed}
 use Rattle.run_words.specs.Commands.{◌taking◌, number_of, option_named, plain_app, positional, rows_in}
 use Rattle.run_words.specs.declared.requests.BrakesForm.{BrakesForm}
 use Rattle.run_words.specs.declared.requests.CapsForm.{CapsForm}
 use Rattle.run_words.specs.declared.requests.CaseForm.{CaseForm}
 use Rattle.run_words.specs.declared.requests.CheckForm.{CheckForm}
 use Rattle.run_words.specs.declared.requests.EnvelopeForm.{EnvelopeForm}
+use Rattle.run_words.specs.declared.requests.GenForm.{GenForm}
 use Rattle.run_words.specs.declared.requests.PlanForm.{PlanForm}
 use Rattle.run_words.specs.declared.requests.Print.{Print}
 use Rattle.run_words.specs.declared.requests.Print.TheVariants as print
@@ -39,6 +41,7 @@ pub data Request : Type 0 where
   Plan : CaseNames → Print → Request
   Check : CaseNames → List ℕ → Request
   Session : List ℕ → List ℕ → List ℕ → Request
+  Gen : ℕ → Request
 
 infixl 9 ◌>>=◌
 abbrev ◌>>=◌ : {A B : Type 0} → Option A → (A → Option B) → Option B
@@ -155,6 +158,15 @@ session_in rows = do
   plan ← first_of (codes "plan") rows
   Some (Session line stock plan)
 
+-- `gen N`: a number from 1 to 1,000,000
+abbrev pub gen_app : App
+gen_app = plain_app (codes "gen") taking positional (codes "number")
+
+abbrev pub gen_in : List Row → Option Request
+gen_in rows = do
+  number ← number_of 1 most_seed (codes "number") rows
+  Some (Gen number)
+
 -- the first of the words is this name
 abbrev pub asks : List Text → Text → Bool
 asks [] name = false
@@ -172,6 +184,7 @@ request_of words =
     else if asks words (codes "plan") then rows_in plan_app words >>= plan_in
     else if asks words (codes "check") then rows_in check_app words >>= check_in
     else if asks words (codes "session") then rows_in session_app words >>= session_in
+    else if asks words (codes "gen") then rows_in gen_app words >>= gen_in
     else None
 
 -- what each form that was read asks for
@@ -202,6 +215,9 @@ check_view f = Check (case_view f.case) f.cert.now
 abbrev pub session_view : SessionForm → Request
 session_view f = Session f.line.now f.stock.now f.plan.now
 
+abbrev pub gen_view : GenForm → Request
+gen_view f = Gen f.number
+
 -- what a request that was read asks for
 abbrev pub view : Form → Request
 view (form.Caps f) = caps_view f
@@ -212,3 +228,4 @@ view (form.Envelope f) = envelope_view f
 view (form.Plan f) = plan_view f
 view (form.Check f) = check_view f
 view (form.Session f) = session_view f
+view (form.Gen f) = gen_view f

@@ -5,8 +5,8 @@ ghost use Rattle.std.specs.Prelude.{◌≡◌, IfOk, map, option_and_then, optio
 ghost use Rattle.clap.specs.Words.{app_of, found_of, rows_of};
 ghost use Rattle.run_words.specs.Commands.{rows_in};
 ghost use Rattle.run_words.specs.Requests.{asks, case_view, print_of, request_of, view};
-ghost use Rattle.run_words.specs.Requests.{brakes_app, caps_app, case_app, check_app, envelope_app, plan_app, rise_app, session_app, stock_app, train_app};
-ghost use Rattle.run_words.specs.Requests.{brakes_in, caps_in, case_in, check_in, envelope_in, plan_in, rise_in, session_in, stock_in};
+ghost use Rattle.run_words.specs.Requests.{brakes_app, caps_app, case_app, check_app, envelope_app, gen_app, plan_app, rise_app, session_app, stock_app, train_app};
+ghost use Rattle.run_words.specs.Requests.{brakes_in, caps_in, case_in, check_in, envelope_in, gen_in, plan_in, rise_in, session_in, stock_in};
 
 mod command;
 mod requests;
@@ -14,11 +14,14 @@ mod requests;
 use crate::command::{matches_by, number_of, plain_command, value_of, with_option, with_value};
 use clap::{ArgMatches, Command};
 pub use requests::{
-    BrakesForm, CapsForm, CaseForm, CheckForm, EnvelopeForm, PlanForm, Print, Request, RiseForm,
-    SessionForm, StockForm,
+    BrakesForm, CapsForm, CaseForm, CheckForm, EnvelopeForm, GenForm, PlanForm, Print, Request,
+    RiseForm, SessionForm, StockForm,
 };
 use std::alloc::Global;
 use unit_rules::{GREATEST_SPEED, LONGEST_TRAIN, Memory};
+
+// The greatest number of a made-up case.
+const MOST_SEED: u32 = 1_000_000;
 
 /// What the words ask for, or None where they are none of the forms:
 /// - `caps LINE LENGTH TOP`, with a length from 1 to 5000 m and a top speed from 1 to 500 km/h,
@@ -28,7 +31,8 @@ use unit_rules::{GREATEST_SPEED, LONGEST_TRAIN, Memory};
 /// - `envelope LINE STOCK`,
 /// - `plan LINE STOCK PLAN --print envelope`, `timetable` or `cert`, and `--edits FILE` or none,
 /// - `check LINE STOCK PLAN CERT`, and `--edits FILE` or none,
-/// - `session LINE STOCK PLAN`.
+/// - `session LINE STOCK PLAN`,
+/// - `gen N`, with a number from 1 to 1,000,000.
 ///
 /// A number has no sign, no space and no zero in front. A value that begins with a dash stands behind
 /// a word `--`, and that of an option behind `=`, but for a dash alone.
@@ -51,6 +55,8 @@ pub fn read_request<'a>(alloc: Global, words: &'a [String]) -> Result<Option<Req
         read_check(alloc, words)
     } else if asks(words, "session") {
         read_session(alloc, words)
+    } else if asks(words, "gen") {
+        read_gen(alloc, words)
     } else {
         Ok(None)
     }
@@ -298,4 +304,29 @@ fn session_of<'a>(matches: &ArgMatches<'a>) -> Option<Request<'a>>
     let stock = value_of(matches, "stock")?;
     let plan = value_of(matches, "plan")?;
     Some(Request::Session(SessionForm { line, stock, plan }))
+}
+
+// Reads `gen N`.
+fn read_gen<'a>(alloc: Global, words: &'a [String]) -> Result<Option<Request<'a>>, Memory>
+    ensures { IfOk result (λ r. option_map view r
+        ≡ option_and_then gen_in (rows_in gen_app (map string_bytes words.entry.now))) }
+{
+    match matches_by(gen_command(alloc)?, words)? {
+        None => Ok(None),
+        Some(matches) => Ok(gen_of(&matches)),
+    }
+}
+
+fn gen_command<'a>(alloc: Global) -> Result<Command<'a>, Memory>
+    ensures { IfOk result (λ c. app_of c ≡ gen_app) }
+{
+    let command = plain_command(alloc, "gen");
+    with_value(alloc, command, "number")
+}
+
+fn gen_of<'a>(matches: &ArgMatches<'a>) -> Option<Request<'a>>
+    ensures { option_map view result ≡ gen_in (rows_of (found_of matches.now)) }
+{
+    let number = number_of(matches, "number", 1, MOST_SEED)?;
+    Some(Request::Gen(GenForm { number }))
 }

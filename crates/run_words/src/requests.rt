@@ -1,6 +1,7 @@
 //! The forms of a command line, with the names of their files and their numbers.
 
 ghost use Rattle.std.specs.Prelude.{◌≤◌};
+ghost use Rattle.run_words.specs.Limits.{most_seed};
 ghost use Rattle.unit_rules.specs.Limits.{greatest_speed, longest_train};
 
 /// `caps LINE LENGTH TOP`: the caps of a line for a train of that length and top speed.
@@ -110,6 +111,15 @@ pub struct SessionForm<'a> {
     pub plan: &'a str,
 }
 
+/// `gen N`: the summary of a session over the made-up case of a number.
+#[derive(Drop)]
+pub struct GenForm {
+    /// The number, from 1 to 1,000,000.
+    pub number: u32,
+    pub ghost number_least: { 1 ≤ number },
+    pub ghost number_most: { number ≤ most_seed },
+}
+
 /// What the words of a command line ask for.
 #[derive(Drop)]
 pub enum Request<'a> {
@@ -129,4 +139,6 @@ pub enum Request<'a> {
     Check(CheckForm<'a>),
     /// The replies to the lines of the input.
     Session(SessionForm<'a>),
+    /// The summary of a session over a made-up case.
+    Gen(GenForm),
 }
