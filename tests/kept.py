@@ -8,17 +8,14 @@ code of each one that is refused, and how far the train gets after some of those
 along the longest line too, whose arrivals are known: to make the line anew each time would take hours.
 """
 
-import pathlib
-import shutil
-import subprocess
 import sys
-import tempfile
 from collections.abc import Iterator
 from dataclasses import dataclass
 from random import Random
 
 sys.dont_write_bytecode = True  # the sources have no folder of compiled ones beside them
 
+import programs
 from compare import (
     Journey,
     Result,
@@ -31,10 +28,8 @@ from compare import (
 )
 from model import Plan, Zone, code_of, words_of
 
-TOP = pathlib.Path(__file__).resolve().parent.parent
 USES = "allowances incr_envelope line_tables plan_tables restrictions run_io stock_tables"
 USES += " time_brackets unit_rules"
-SECONDS = 300
 CASES = 12
 EDITS = 200
 ASKED = 10  # the model is asked how far the train gets after each tenth edit
@@ -127,43 +122,13 @@ KINDS = {f"code {code}" for code in (1, 2, 3, 4, 5)}
 KINDS |= {"a stall comes", "a stall moves", "a stall goes"}
 
 
-def crates_with_kept(folder: pathlib.Path) -> pathlib.Path:
-    """The crate of the program of tests/kept/, among copies of the crates in a folder."""
-    left_out = shutil.ignore_patterns("out", "must-fail", "proofs")
-    shutil.copytree(TOP / "crates", folder / "crates", ignore=left_out)
-    # the gate takes each `.rt` file for one of a crate that it proves, so this one has another ending
-    source = folder / "crates" / "kept" / "src"
-    source.mkdir(parents=True)
-    shutil.copy(TOP / "tests" / "kept" / "main.rs", source / "main.rt")
-    shutil.copy(TOP / "HANDLES", folder)
-    crates = (TOP / "crates.txt").read_text()
-    (folder / "crates.txt").write_text(f"{crates}kept: {USES}\n")
-    return folder / "crates" / "kept"
-
-
-def printed(crate: pathlib.Path, files: dict[str, str]) -> tuple[list[str], str]:
-    """The lines that the program prints over the files of the cases, and the end of what is said."""
-    for name, text in files.items():
-        (crate / name).write_text(text)
-    data = [word for name in files for word in ("--data", f"{name}={crate / name}")]
-    command = ["rt", "try", "--steps", "1000", "--seconds", str(SECONDS // 2), *data, "--", str(CASES)]
-    try:
-        ended = subprocess.run(command, cwd=crate, capture_output=True, text=True, timeout=SECONDS)
-    except subprocess.TimeoutExpired:
-        return [], f"ended after {SECONDS} s"
-    said = ended.stdout + ended.stderr
-    if "checked: ended status=0" not in said.splitlines():
-        return [], said[-400:]
-    return ended.stdout.splitlines(), said[-400:]
-
-
 def results() -> Iterator[Result]:
     """Compares what is printed over drawn scripts, and of the longest line, with what is wanted."""
     random = Random(SEED)
     scripts = [Script.drawn(random) for _ in range(CASES)]
     files = {name: text for number, script in enumerate(scripts) for name, text in script.files(number).items()}
-    with tempfile.TemporaryDirectory() as given:
-        lines, said = printed(crates_with_kept(pathlib.Path(given)), files)
+    text, said = programs.printed("kept", USES, [str(CASES)], files)
+    lines = text.splitlines()
     yield "what is kept is as made anew after each edit", bool(lines), f"  {said}\n"
     for number, script in enumerate(scripts):
         wrong = script.first_wrong(lines[number * EDITS : (number + 1) * EDITS])

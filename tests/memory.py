@@ -45,6 +45,7 @@ SLOW = "time 14400000000 14400000000\n"
 ROWS = "0 start 0 0 0 0 0 0 -\n2 end 10182291298 10182363300 10182291298 10182363300 0 10183 -\n"
 SLOW_ROWS = "0 start 0 0 0 0 0 0 -\n2 end 14400000000 14400000000 14400000000 14400000000 0 14400 -\n"
 RUN = "0 0\n1 20000\n2 40000\n3 60000\n4 80000\n5 100000\n6 103680\n7 77760\n8 51840\n9 25920\n10 0\n"
+SUMMARY = "points 120001\ncommands 2000\nputs 970\ntakes 930\ntimes 100\nstalls 0\nlast 5948736461721 5948736961980\n"
 SESSION = "session two.csv toy.toml none.csv"
 
 
@@ -76,6 +77,7 @@ CASES = [
     Case("plan two.csv toy.toml none.csv --print timetable --edits edits.txt", SLOW_ROWS),
     Case("plan two.csv toy.toml none.csv --print cert", FILES["cert.txt"]),
     Case("check two.csv toy.toml none.csv cert.txt", "valid whole\n"),
+    Case("gen 1", SUMMARY, fronts=("",)),
     Case(
         SESSION,
         f"{FREE}ok whole\n{SLOW}ok whole\n{FREE}",

@@ -122,15 +122,14 @@ class Session:
             return None if name_in(line) in self.talk.points else 7
         return code_of(line, self.talk.line.length, self.held)
 
-    def edit(self, kind: str, name: str, *zone: str) -> str:
-        """Puts a restriction in force or takes it out; the reply."""
+    def edit(self, kind: str, name: str, *zone: str) -> None:
+        """Puts a restriction in force or takes it out."""
         if kind == "put":
             start, end, kmh = map(int, zone)
             self.held[name] = start, end, kmh
             self.binding[self.held[name]] += 1
         else:
             self.binding[self.held.pop(name)] -= 1
-        return f"ok {self.outcome.verdict}\n"
 
     def reply(self, line: str) -> str:
         """The reply to a line."""
@@ -141,7 +140,8 @@ class Session:
             return self.outcome.text(words[0])
         if words[0] == "time":
             return self.outcome.arrival(self.talk.points[name_in(line)])
-        return self.edit(*words)
+        self.edit(*words)
+        return f"ok {self.outcome.verdict}\n"
 
 
 def held_with(talk: Talk, given: bytes) -> Answer:
