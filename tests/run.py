@@ -3,13 +3,14 @@
 
 The parts, all of which are run where none is named, are `cases`, those of tests/cases/; `compare`, the
 comparisons of compare.py; `sessions`, sessions that are drawn, and how a session goes on and ends
-(sessions.py); `certificates`, changed certificates (certificates.py); `kept`, edits of an envelope that
-is kept right (kept.py); `runner`, broken cases that the runner has to fail (runner.py);
-`wrapper`, the calls of `./rtime` (wrapper.py); `documents`, the commands of the documents
-(documents.py); and `mistakes`, that the manual's table of mistakes and the cases of mistakes say the same
-(mistakes.py). With `--slow`, or where it is named, `memory` is one too, which refuses memory (memory.py).
-It ends with a line 'N passed, M failed', and before it says how many were skipped, where some were. A program
-that is older than its sources fails, and nothing is run.
+(sessions.py); `certificates`, changed certificates (certificates.py); `kept`, edits of an envelope that is
+kept right (kept.py); `made`, made-up cases (made.py); `studies`, a small study by both of its engines
+(studies.py); `runner`, broken cases that the runner has to fail (runner.py); `wrapper`, the calls of
+`./rtime` (wrapper.py); `documents`, the commands of the documents (documents.py); and `mistakes`, that the
+manual's table of mistakes and the cases of mistakes say the same (mistakes.py). With `--slow`, or where it is
+named, `memory` is one too, which refuses memory (memory.py). It ends with a line 'N passed, M failed', and
+before it says how many were skipped, where some were. A program that is older than its sources fails, and
+nothing is run.
 
 The head of case_files.py says how a file of tests/cases/ is written. For each case the program is started
 in a new folder that holds the files of the case alone.
@@ -29,11 +30,13 @@ import certificates
 import compare
 import documents
 import kept
+import made
 import memory
 import mistakes
 import pipes
 import runner
 import sessions
+import studies
 import wrapper
 from case_files import (
     CASES,
@@ -151,6 +154,8 @@ PARTS = {
     "sessions": sessions.results,
     "certificates": certificates.results,
     "kept": kept.results,
+    "made": made.results,
+    "studies": studies.results,
     "runner": runner.results,
     "wrapper": wrapper.results,
     "documents": documents.results,
