@@ -7,6 +7,9 @@ a run doesn't come to. Each run has to give the right answer, or to end with sta
 stands written; of a session nothing, or the replies to the lines before one of its lines `timetable`.
 
 Where the machine has no compiler of C, it is skipped.
+
+The program of tests/room/ makes room for one restriction, and then puts one in force: of the growths of its memory, the
+first whose refusal doesn't keep it from making room mustn't keep it from the put either.
 """
 
 import os
@@ -21,6 +24,7 @@ from dataclasses import dataclass
 sys.dont_write_bytecode = True  # the sources have no folder of compiled ones beside them
 
 from compare import PROGRAM, TOP, Answer, Result, report, why_older
+from programs import crate_of, tried
 
 SECONDS = 60
 MOST = 100000  # growths of one run
@@ -47,6 +51,7 @@ SLOW_ROWS = "0 start 0 0 0 0 0 0 -\n2 end 14400000000 14400000000 14400000000 14
 RUN = "0 0\n1 20000\n2 40000\n3 60000\n4 80000\n5 100000\n6 103680\n7 77760\n8 51840\n9 25920\n10 0\n"
 SUMMARY = "points 120001\ncommands 2000\nputs 970\ntakes 930\ntimes 100\nstalls 0\nlast 5948736461721 5948736961980\n"
 SESSION = "session two.csv toy.toml none.csv"
+ROOM_USES = "allowances incr_envelope line_tables plan_tables restrictions run_io stock_tables time_brackets unit_rules"
 
 
 @dataclass(frozen=True)
@@ -142,7 +147,29 @@ class Refusing:
                 return
 
 
+def with_room() -> Iterator[Result]:
+    """Whether a put wants no memory after room was made for it."""
+    with tempfile.TemporaryDirectory() as given:
+        crate = crate_of("room", ROOM_USES, pathlib.Path(given))
+        kept, freed = 0, 64  # a growth that making room needs, and one that it doesn't
+        while tried(crate, refused=freed)[0] == "no room\n" and freed < MOST:
+            kept, freed = freed, 2 * freed
+        while freed - kept > 1:
+            middle = (kept + freed) // 2
+            needs = tried(crate, refused=middle)[0] == "no room\n"
+            kept, freed = (middle, freed) if needs else (kept, middle)
+        printed, said = tried(crate, refused=freed)
+        is_right = kept > 0 and printed == "put\n"
+        yield "refused memory: a put after room was made", is_right, f"  growth {freed}: {printed!r}, {said}\n"
+
+
 def results(program: pathlib.Path = PROGRAM, cases: Sequence[Case] = CASES) -> Iterator[Result]:
+    """Of each case whether every refusal leaves a right answer, and whether a put after room was made does."""
+    yield from refusals(program, cases)
+    yield from with_room()
+
+
+def refusals(program: pathlib.Path, cases: Sequence[Case]) -> Iterator[Result]:
     """Of each case whether every refusal leaves a right answer."""
     if not shutil.which("cc"):
         yield "refused memory", None, "a compiler of C isn't there"

@@ -25,11 +25,17 @@ def crate_of(name: str, uses: str, folder: pathlib.Path) -> pathlib.Path:
     return folder / "crates" / name
 
 
-def tried(crate: pathlib.Path, words: Sequence[str], files: Mapping[str, str]) -> tuple[str, str]:
-    """What a program prints, which is nothing where it fails; and the end of what is said."""
+def tried(
+    crate: pathlib.Path, words: Sequence[str] = (), files: Mapping[str, str] = NO_FILES, refused: int = 0
+) -> tuple[str, str]:
+    """What a program prints, which is nothing where it fails; and the end of what is said.
+
+    Where a number is given, the growth of that number finds no memory.
+    """
     for name, text in files.items():
         (crate / name).write_text(text)
     data = [word for name in files for word in ("--data", f"{name}={crate / name}")]
+    data += ["--fail-alloc", str(refused)] * bool(refused)
     command = ["rt", "try", "--steps", "1000", "--seconds", str(SECONDS // 2), *data, "--", *words]
     try:
         ended = subprocess.run(command, cwd=crate, capture_output=True, timeout=SECONDS)

@@ -317,7 +317,7 @@ def memory_results():
         subprocess.run(["cc", "-o", program, source], check=True)
         for does, fronts, wanted in REFUSALS:
             case = memory.Case(does, "a\nb\n", fronts=fronts)
-            found = [passed for _, passed, _ in memory.results(program, [case])]
+            found = [passed for _, passed, _ in memory.refusals(program, [case])]
             yield f"memory is refused: {does}, {fronts}", found == [wanted], f"  {found}\n"
 
 
