@@ -668,9 +668,8 @@ def report(results: Iterable[Result]) -> bool:
             print(f"SKIPPED {name}: {detail}")
         elif not passed:
             print(f"FAILED {name}\n{detail}", end="")
-    if counts[None]:
-        print(f"{counts[None]} skipped")
-    print(f"{counts[True]} passed, {counts[False]} failed")
+    skipped = f", {counts[None]} skipped" if counts[None] else ""
+    print(f"{counts[True]} passed, {counts[False]} failed{skipped}")
     return bool(counts[True]) and not counts[False]
 
 

@@ -8,8 +8,8 @@ kept right (kept.py); `made`, made-up cases (made.py); `studies`, a small study 
 (studies.py); `runner`, broken cases that the runner has to fail (runner.py); `wrapper`, the calls of
 `./rtime` (wrapper.py); `documents`, the commands of the documents (documents.py); and `mistakes`, that the
 manual's table of mistakes and the cases of mistakes say the same (mistakes.py). With `--slow`, or where it is
-named, `memory` is one too, which refuses memory (memory.py). It ends with a line 'N passed, M failed', and
-before it says how many were skipped, where some were. A program that is older than its sources fails, and
+named, `memory` is one too, which refuses memory (memory.py). It ends with a line 'N passed, M failed', which
+says how many were skipped too, where some were. A program that is older than its sources fails, and
 nothing is run.
 
 The head of case_files.py says how a file of tests/cases/ is written. For each case the program is started

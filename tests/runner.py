@@ -241,10 +241,10 @@ def told(folder):
     return ended.returncode, ended.stdout
 
 
-def difference(found, passed, failed, said):
-    """How what the runner told differs from so many that passed and failed, and what is said."""
+def difference(found, passed, failed, said, skipped=0):
+    """How what the runner told differs from so many that passed, failed and were skipped, and what is said."""
     status, text = found
-    last = f"{passed} passed, {failed} failed\n"
+    last = f"{passed} passed, {failed} failed{f', {skipped} skipped' if skipped else ''}\n"
     is_so = text.endswith(last) and said in text and status == (1 if failed or not passed else 0)
     return "" if is_so else f"  status {status}, told {text!r}\n  wanted {said!r} and {last!r}\n"
 
@@ -258,7 +258,7 @@ def case_results():
             (folder / "tests" / "cases" / f"{number}.toml").write_text(text)
         found = told(folder)
     passed, failed = (sum(row[column] for row in CASES) for column in (1, 2))
-    whole = difference(found, passed + 1, failed, "")
+    whole = difference(found, passed + 1, failed, "", skipped=1)
     yield "runner: all files", not whole, whole
     for number, (text, _, failed, said) in enumerate(CASES):
         of_file = [it for it in TELLS.split(found[1]) if re.match(rf"\w+ {number}\.toml\b", it)]
@@ -342,23 +342,23 @@ def add_file(folder):
     (folder / "tests" / "cases" / "notes").write_text("a = []")
 
 
-# What is done to a small repository, how many cases pass and fail then, and what is said.
+# What is done to a small repository, how many cases pass, fail and are skipped then, and what is said.
 CHANGES = [
-    (make_older, 0, 1, "crates/rtime/src/main.rt is newer"),
-    (take_away, 0, 1, "it isn't there"),
-    (skip_all, 0, 0, "1 skipped"),
-    (add_file, 1, 1, "it is no file of cases"),
+    (make_older, 0, 1, 0, "crates/rtime/src/main.rt is newer"),
+    (take_away, 0, 1, 0, "it isn't there"),
+    (skip_all, 0, 0, 1, "not now"),
+    (add_file, 1, 1, 0, "it is no file of cases"),
 ]
 
 
 def change_results():
     """Tries each change of CHANGES."""
-    for change, passed, failed, said in CHANGES:
+    for change, passed, failed, skipped, said in CHANGES:
         with tempfile.TemporaryDirectory() as given:
             folder = pathlib.Path(given)
             lay_repository(folder)
             change(folder)
-            found = difference(told(folder), passed, failed, said)
+            found = difference(told(folder), passed, failed, said, skipped)
         yield f"runner: {change.__doc__}", not found, found
 
 
