@@ -4,10 +4,6 @@ use Rattle.made_cases.specs.Commands.{commands_text}
 use Rattle.made_cases.specs.Files.{line_text}
 use Rattle.made_cases.specs.declared.Made.{Made}
 
--- the greatest number of a case
-abbrev pub most_seed : ℕ
-most_seed = 1000000
-
 -- the stock file: a train of 400 t, 400 m and 200 km/h
 abbrev pub stock_text : List ℕ
 stock_text = codes "mass = 400000\nrotating = 60\nlength = 400\ntop = 200\neffort = [[0, 300000], [67, 300000], [70, 288000], [80, 252000], [90, 224000], [100, 201600], [120, 168000], [140, 144000], [160, 126000], [180, 112000], [200, 100800]]\nresistance = [4000, 30000, 600]\nbrake = [[0, 500], [200, 500]]\n"

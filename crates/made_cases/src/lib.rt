@@ -3,7 +3,8 @@
 #![tactic(auto)]
 
 ghost use Rattle.std.specs.Prelude.{◌≡◌, ◌≤◌, IfOk};
-ghost use Rattle.made_cases.specs.Made.{made_case, most_seed, seen};
+ghost use Rattle.made_cases.specs.Made.{made_case, seen};
+ghost use Rattle.unit_rules.specs.Limits.{most_seed};
 
 mod commands;
 mod draws;

@@ -2,9 +2,8 @@
 use Rattle.std.specs.Prelude.{ℕ, Bool, false, true, List, [], ◌∷◌, Option, Some, None, option_and_then}
 use Rattle.std.specs.Prelude.{codes, if◌then◌else◌, option_map}
 use Rattle.std.specs.Str.{bytes_eq}
-use Rattle.unit_rules.specs.Limits.{greatest_speed, longest_train}
+use Rattle.unit_rules.specs.Limits.{greatest_speed, longest_train, most_seed}
 use Rattle.clap.specs.Words.{App, Row, Text, first_of}
-use Rattle.run_words.specs.Limits.{most_seed}
 use Rattle.run_words.specs.Commands.{◌taking◌, number_of, option_named, plain_app, positional, rows_in}
 use Rattle.run_words.specs.declared.requests.BrakesForm.{BrakesForm}
 use Rattle.run_words.specs.declared.requests.CapsForm.{CapsForm}

@@ -18,10 +18,7 @@ pub use requests::{
     RiseForm, SessionForm, StockForm,
 };
 use std::alloc::Global;
-use unit_rules::{GREATEST_SPEED, LONGEST_TRAIN, Memory};
-
-// The greatest number of a made-up case.
-const MOST_SEED: u32 = 1_000_000;
+use unit_rules::{GREATEST_SPEED, LONGEST_TRAIN, MOST_SEED, Memory};
 
 /// What the words ask for, or None where they are none of the forms:
 /// - `caps LINE LENGTH TOP`, with a length from 1 to 5000 m and a top speed from 1 to 500 km/h,

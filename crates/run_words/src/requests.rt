@@ -1,8 +1,7 @@
 //! The forms of a command line, with the names of their files and their numbers.
 
 ghost use Rattle.std.specs.Prelude.{◌≤◌};
-ghost use Rattle.run_words.specs.Limits.{most_seed};
-ghost use Rattle.unit_rules.specs.Limits.{greatest_speed, longest_train};
+ghost use Rattle.unit_rules.specs.Limits.{greatest_speed, longest_train, most_seed};
 
 /// `caps LINE LENGTH TOP`: the caps of a line for a train of that length and top speed.
 #[derive(Drop)]

@@ -9,7 +9,7 @@ ghost use Rattle.session_replies.specs.Summaries.{SumsUp, all_in, count_line, la
 use crate::answers::{Answer, Change};
 use crate::session::Session;
 use restrictions::first_line;
-use run_io::{Block, Failed, Sink};
+use run_io::{BLOCK, Block, Failed, Sink};
 use std::sync::ledger::Ledger;
 use time_brackets::Bracket;
 use unit_rules::{Reach, Steps};
@@ -129,7 +129,7 @@ pub fn write_summary<K: Sink>(out: &mut K, summary: &Summary) -> Result<(), Fail
 
 // Puts a line of a word and a number before the text.
 fn put_count(block: &mut Block, word: &[u8], number: u64)
-    requires { length block.old + length word.now + 21 ≤ 65536 }
+    requires { length block.old + length word.now + 21 ≤ BLOCK }
     ensures text { block.new ≡ count_line word.now number ++ block.old }
     ensures short { length block.new ≤ length block.old + length word.now + 21 }
 {

@@ -21,6 +21,10 @@ greatest_squared_speed = 2500000000
 abbrev pub most_bytes : ℕ
 most_bytes = 67108864
 
+-- the greatest number of a made-up case
+abbrev pub most_seed : ℕ
+most_seed = 1000000
+
 -- the greatest value of a table, either way
 abbrev pub greatest_value : ℕ
 greatest_value = 10 ^ 15

@@ -11,7 +11,7 @@ mod roots;
 
 pub use counter::Steps;
 pub use divisors::Divisor;
-pub use limits::{GREATEST_SPEED, LONGEST_LINE, LONGEST_TRAIN, MOST_BYTES};
+pub use limits::{GREATEST_SPEED, LONGEST_LINE, LONGEST_TRAIN, MOST_BYTES, MOST_SEED};
 pub use numerals::{number_in, read_whole, signed_within, within};
 pub use quotients::{div_ceil, div_floor};
 pub use roots::{both_roots, root_ceil, root_floor};

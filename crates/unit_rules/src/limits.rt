@@ -11,3 +11,6 @@ pub const GREATEST_SPEED: u32 = 500;
 
 /// The most bytes of a file.
 pub const MOST_BYTES: u64 = 67_108_864;
+
+/// The greatest number of a made-up case.
+pub const MOST_SEED: u32 = 1_000_000;
