@@ -2,7 +2,8 @@
 #![tactic(auto)]
 
 ghost use Rattle.std.specs.Prelude.{◌≡◌, ◌≤◌, All, IfOk};
-ghost use Rattle.case_rules.specs.Case.{case_profile, train_motion, train_pulls, train_rule};
+ghost use Rattle.case_rules.specs.Case.{case_profile, plan_caps, train_motion, train_pulls, train_rule};
+ghost use Rattle.limit_profile.specs.Profile.{AreAlike, caps};
 ghost use Rattle.plan_tables.specs.Bounds.{bounds_of};
 ghost use Rattle.plan_tables.specs.Plan.{PlanLiesOn};
 ghost use Rattle.run_rules.specs.StepRules.{IsPull};
@@ -54,8 +55,10 @@ pub fn course_on(
 ) -> Result<(Limits, Rule), Memory>
     requires plan { PlanLiesOn line.now.length plan.now }
     requires restrictions { All (LiesOn line.now.length) restrictions.now }
-    ensures profile { IfOk result (λ both. both.0 ≡ case_profile line.now stock
-        restrictions.now (bounds_of plan.now line.now.length)) }
+    ensures profile { IfOk result (λ both. AreAlike (case_profile line.now stock
+        restrictions.now (bounds_of plan.now line.now.length)) both.0) }
+    ensures caps { IfOk result (λ both. caps both.0
+        ≡ plan_caps line.now stock plan.now restrictions.now) }
     ensures motion { IfOk result (λ both. both.1 ≡ train_motion line.now stock) }
     ensures cells { IfOk result (λ both. cells_of both.1 ≡ line.now.length) }
     ensures top { IfOk result (λ both. kmh_of both.1 ≡ stock.top) }
@@ -85,8 +88,8 @@ fn plan_limits(
 ) -> Result<Limits, Memory>
     requires plan { PlanLiesOn line.now.length plan.now }
     requires restrictions { All (LiesOn line.now.length) restrictions.now }
-    ensures profile { IfOk result (λ limits. limits ≡ case_profile line.now stock.now
-        restrictions.now (bounds_of plan.now line.now.length)) }
+    ensures profile { IfOk result (AreAlike (case_profile line.now stock.now
+        restrictions.now (bounds_of plan.now line.now.length))) }
 {
     let bounds = bounds(alloc, plan, line.length())?;
     limits_on(alloc, line, stock, restrictions, &bounds)
@@ -103,8 +106,8 @@ fn limits_on(
 ) -> Result<Limits, Memory>
     requires restrictions { All (LiesOn line.now.length) restrictions.now }
     requires bounds { All (λ b. b.at ≤ line.now.length) bounds.now }
-    ensures profile { IfOk result (λ limits.
-        limits ≡ case_profile line.now stock.now restrictions.now bounds.now) }
+    ensures profile { IfOk result (AreAlike (case_profile line.now stock.now
+        restrictions.now bounds.now)) }
 {
     let Ok(mut zones) = Vec::from_slice(alloc, line.limits()) else {
         return Err(Memory);

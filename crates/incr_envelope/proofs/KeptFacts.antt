@@ -12,7 +12,7 @@ use Rattle.unit_rules.specs.Zone.{LiesOn}
 use Rattle.unit_rules.specs.declared.Reach.{Reach}
 use Rattle.unit_rules.specs.declared.Reach.TheVariants.{Whole, Stalled}
 use Rattle.unit_rules.specs.declared.Zone.{Zone}
-use Rattle.limit_profile.specs.Profile.{IsFreed, Profile, caps, rezoned}
+use Rattle.limit_profile.specs.Profile.{AreAlike, IsAdded, IsFreed, Profile, caps, rezoned}
 use Rattle.plan_tables.specs.Bounds.{bounds_of}
 use Rattle.plan_tables.specs.Plan.{PlanLiesOn}
 use Rattle.run_rules.specs.Runs.{ReachesAs, StepRule}
@@ -22,7 +22,7 @@ use Rattle.case_rules.specs.Case.{case_profile, train_motion}
 use Rattle.restrictions.specs.Force.{ForceView, IsForce, most_in_force, put_in, without, zone_of, zones_of}
 use Rattle.step_rule.specs.Motion.{cells_of, most_of, step_rule_of}
 use Rattle.incr_envelope.proofs.TouchedFacts.{StandsFor-known}
-use Rattle.incr_envelope.proofs.ZoneFacts.{AgreeOutside-sym, AreSame-added, AreSame-put, AreSame-taken, AreSame-without, caps_of-agree, caps_of-same, zones_lie-put, zones_lie-taken}
+use Rattle.incr_envelope.proofs.ZoneFacts.{AgreeOutside-sym, AreSame-permutation, AreSame-put, AreSame-sym, AreSame-taken, caps_of-agree, caps_of-same, zones_lie-put, zones_lie-taken}
 use Rattle.incr_envelope.specs.Envelope.{IsFromScratch, arrival_in, caps_under}
 use Rattle.incr_envelope.specs.Kept.{AreLimits, Fields, IsKept, stock_in, view_of}
 use Rattle.incr_envelope.specs.Runs.{IsFastest, WasFastest, known_in}
@@ -64,13 +64,19 @@ IsFromScratch-fastest f lies zones force motion limits cells fastest =
 
 -- the fields of an envelope that is made belong together
 pub IsKept-made : (f : Fields) (stock : StockView) → f.mass ≡ stock.mass → f.train ≡ stock.length → f.motion ≡ train_motion f.line stock
-    → f.limits ≡ case_profile f.line stock (zones_of f.force.pairs) (bounds_of f.plan f.line.length) → f.spare ≡ 0 → IsStock stock → IsForce f.force
+    → AreAlike (case_profile f.line stock (zones_of f.force.pairs) (bounds_of f.plan f.line.length)) f.limits → f.spare ≡ 0 → IsStock stock → IsForce f.force
     → PlanLiesOn f.line.length f.plan → All (LiesOn f.line.length) (zones_of f.force.pairs) → cells_of f.motion ≡ f.line.length
     → IsFastest (step_rule_of f.motion) (cells_of f.motion) (most_of f.motion) (caps f.limits) f.run → IsKept f
 IsKept-made f stock mass train motion limits spare is_stock is_force lies zones cells fastest =
-    let same : stock_in f ≡ stock = rw (mass, train, motion, limits) refl in
+    let same : stock_in f ≡ stock = rw (mass, train, motion, limits.rest) refl in
     let moves : f.motion ≡ train_motion f.line (stock_in f) = motion ∙ ap (train_motion f.line) (sym same) in
-    let are : AreLimits f = record { metres = rw limits refl; train = rw (limits, train) refl; bounds = rw limits refl; zones = λ test. rw limits refl } in
+    let zones_in = f.line.limits ++ zones_of f.force.pairs in
+    let are : AreLimits f = record {
+      metres = rw limits.rest refl;
+      train = rw (limits.rest, train) refl;
+      bounds = rw limits.rest refl;
+      zones = AreSame-sym zones_in f.limits.zones (AreSame-permutation zones_in f.limits.zones limits.zones);
+    } in
     record {
       stock = subst IsStock (sym same) is_stock;
       force = is_force;
@@ -89,14 +95,18 @@ caps-agree : (f : Fields) (more fewer : Profile) (z : Zone) → AreLimits f → 
 caps-agree f more fewer z limits a b same =
     rw (a, b, limits.metres, limits.train) (caps_of-agree f.line.length f.train f.limits.top more.zones fewer.zones z f.limits.bounds same)
 
+-- limits with other zones, and some number of them spare
+rezoned-own : (before after : Profile) (n : ℕ) → after ≡ rezoned before after.zones n → after ≡ rezoned before after.zones after.spare
+rezoned-own before after n rest = rest ∙ ap (rezoned before after.zones) (sym (ap (λ (p : Profile). p.spare) rest))
+
 -- what was the fastest run before a zone was put among the limits, or taken out of them
-pub WasFastest-put : (f : Fields) (z : Zone) (limits : Profile) (n : ℕ) → IsKept f → limits ≡ rezoned f.limits (f.limits.zones ++ z ∷ []) n
+pub WasFastest-put : (f : Fields) (z : Zone) (limits : Profile) → IsKept f → IsAdded z f.limits limits
     → WasFastest (step_rule_of f.motion) (cells_of f.motion) (most_of f.motion) (caps limits) z.from (min f.line.length (z.to + f.train)) f.run
-WasFastest-put f z limits n kept put = record {
+WasFastest-put f z limits kept added = record {
   older = caps f.limits;
   agree =
-      let zones : AreSame limits.zones (z ∷ f.limits.zones) = rw put (AreSame-added f.limits.zones z) in
-      let same : limits ≡ rezoned f.limits limits.zones limits.spare = rw put refl in
+      let zones = AreSame-sym (z ∷ f.limits.zones) limits.zones (AreSame-permutation (z ∷ f.limits.zones) limits.zones added.zones) in
+      let same = rezoned-own f.limits limits (f.limits.spare - 1) added.rest in
       AgreeOutside-sym (caps limits) (caps f.limits) _ _ (caps-agree f limits f.limits z kept.limits same refl zones);
   fastest = kept.fastest;
 }
@@ -106,8 +116,8 @@ pub WasFastest-taken : (f : Fields) (z : Zone) (limits : Profile) → IsKept f �
 WasFastest-taken f z limits kept freed = record {
   older = caps f.limits;
   agree =
-      let same : limits ≡ rezoned f.limits limits.zones limits.spare = freed.rest ∙ ap (rezoned f.limits limits.zones) (sym (ap (λ (p : Profile). p.spare) freed.rest)) in
-      caps-agree f f.limits limits z kept.limits refl same (AreSame-without z f.limits.zones limits.zones freed.without);
+      let same = rezoned-own f.limits limits (f.limits.spare + 1) freed.rest in
+      caps-agree f f.limits limits z kept.limits refl same (AreSame-permutation f.limits.zones (z ∷ limits.zones) freed.zones);
   fastest = kept.fastest;
 }
 
@@ -168,16 +178,16 @@ put_in-pairs id z pairs after e = elim (cases_Bool (is_some (zone_of id pairs)))
 
 -- the fields belong together once a zone was put
 pub IsKept-put : (f : Fields) (id : List ℕ) (z : Zone) (limits : Profile) (force : ForceView) (run : Run) → IsKept f → LiesOn f.line.length z
-    → limits ≡ rezoned f.limits (f.limits.zones ++ z ∷ []) (f.limits.spare - 1) → put_in id z f.force.pairs ≡ Ok force.pairs → force.spare ≡ f.force.spare - 1 → IsForce force
+    → IsAdded z f.limits limits → put_in id z f.force.pairs ≡ Ok force.pairs → force.spare ≡ f.force.spare - 1 → IsForce force
     → IsFastest (step_rule_of f.motion) (cells_of f.motion) (most_of f.motion) (caps limits) run
     → IsKept (record { line = f.line; plan = f.plan; mass = f.mass; train = f.train; motion = f.motion; limits = limits; force = force; spare = f.spare - 1; run = run })
-IsKept-put f id z limits force run kept lies put pairs room is_force fastest =
+IsKept-put f id z limits force run kept lies added pairs room is_force fastest =
     let after = put_in-pairs id z f.force.pairs force.pairs pairs in
-    let zones : limits.zones ≡ f.limits.zones ++ z ∷ [] = ap (λ (p : Profile). p.zones) put in
-    let spare : limits.spare ≡ f.limits.spare - 1 = ap (λ (p : Profile). p.spare) put in
-    let same : limits ≡ rezoned f.limits limits.zones limits.spare = put ∙ sym (λ k. rezoned f.limits (zones k) (spare k)) in
+    let spare : limits.spare ≡ f.limits.spare - 1 = ap (λ (p : Profile). p.spare) added.rest in
+    let same = rezoned-own f.limits limits (f.limits.spare - 1) added.rest in
+    let put = AreSame-permutation (z ∷ f.limits.zones) limits.zones added.zones in
     let those : AreSame limits.zones (f.line.limits ++ zones_of force.pairs) = λ test.
-    ap (λ (zs : List Zone). count_by test zs) zones ∙ AreSame-put f.limits.zones f.line.limits f.force.pairs id z kept.limits.zones test ∙ ap (λ (ps : List (List ℕ × Zone)). count_by test (f.line.limits ++ zones_of ps)) (sym after) in
+    AreSame-put f.limits.zones limits.zones f.line.limits f.force.pairs id z put kept.limits.zones test ∙ ap (λ (ps : List (List ℕ × Zone)). count_by test (f.line.limits ++ zones_of ps)) (sym after) in
     let lie = subst (λ (ps : List (List ℕ × Zone)). All (LiesOn f.line.length) (zones_of ps)) (sym after) (zones_lie-put f.line.length f.force.pairs id z kept.scratch.zones_lie lies) in
     IsKept-changed f limits force (f.spare - 1) run kept same those is_force lie (omega (arith, room, kept.force_spare)) (omega (arith, spare, kept.limits_spare)) fastest
 
@@ -190,9 +200,10 @@ IsKept-taken f id z limits force run kept at freed taken is_force fastest =
     let after : force.pairs ≡ without id f.force.pairs = ap (λ (v : ForceView). v.pairs) taken in
     let room : force.spare ≡ f.force.spare + 1 = ap (λ (v : ForceView). v.spare) taken in
     let spare : limits.spare ≡ f.limits.spare + 1 = ap (λ (p : Profile). p.spare) freed.rest in
-    let same : limits ≡ rezoned f.limits limits.zones limits.spare = freed.rest ∙ ap (rezoned f.limits limits.zones) (sym spare) in
+    let same = rezoned-own f.limits limits (f.limits.spare + 1) freed.rest in
+    let without_z = AreSame-permutation f.limits.zones (z ∷ limits.zones) freed.zones in
     let those : AreSame limits.zones (f.line.limits ++ zones_of force.pairs) = λ test.
-    AreSame-taken f.limits.zones limits.zones f.line.limits f.force.pairs id z freed.without kept.limits.zones kept.force.distinct at test ∙ ap (λ (ps : List (List ℕ × Zone)). count_by test (f.line.limits ++ zones_of ps)) (sym after) in
+    AreSame-taken f.limits.zones limits.zones f.line.limits f.force.pairs id z without_z kept.limits.zones kept.force.distinct at test ∙ ap (λ (ps : List (List ℕ × Zone)). count_by test (f.line.limits ++ zones_of ps)) (sym after) in
     let lie = subst (λ (ps : List (List ℕ × Zone)). All (LiesOn f.line.length) (zones_of ps)) (sym after) (zones_lie-taken f.line.length f.force.pairs id kept.scratch.zones_lie) in
     IsKept-changed f limits force (f.spare + 1) run kept same those is_force lie (omega (arith, room, kept.force_spare)) (omega (arith, spare, kept.limits_spare)) fastest
 

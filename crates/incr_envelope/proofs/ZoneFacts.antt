@@ -1,22 +1,21 @@
 -- Zones in any order: those of the restrictions in force, and the caps that they give.
-use Rattle.std.proofs.Common.{◌≡◌, ℕ, zero, suc, ◌+◌, ◌<◌, ◌≤◌, ◌⊎◌, min, Bool, true, false, cond, not, ◌&&◌, ◌==◌, nat_le, List, [], ◌∷◌, ◌++◌, length, map, slice_index, slice_index_or, count_by, All, Contains, Some, arith, ap, refl, sym, ◌∙◌, inl, inr}
+use Rattle.std.proofs.Common.{◌≡◌, ℕ, zero, suc, ◌+◌, ◌<◌, ◌≤◌, ◌⊎◌, min, Bool, true, false, cond, not, ◌&&◌, ◌==◌, List, [], ◌∷◌, ◌++◌, length, map, slice_index, slice_index_or, count_by, All, Contains, Some, arith, ap, refl, sym, ◌∙◌, inl, inr}
 use Rattle.std.specs.List.{range_with_len}
 use Rattle.std.proofs.lemmas.Bool.{and_from, and_left, and_parts, and_right, cases_lt, eq-eqb, eqb-true, lt-leb}
-use Rattle.std.proofs.lemmas.Bool.Decides.{leb_tells}
 use Rattle.std.proofs.lemmas.List.{get_or_past}
-use Rattle.std.proofs.lemmas.List.Elements.{All-cons, All-contains, All-head, All-push, All-tail, Contains-append_right}
+use Rattle.std.proofs.lemmas.List.Sorted.{sum_by-IsPermutation}
+use Rattle.std.specs.List.Sorted.{IsPermutation}
+use Rattle.std.proofs.lemmas.List.Elements.{All-cons, All-contains, All-contains_itself, All-head, All-push, All-tail, Contains-append_right}
 use Rattle.std.proofs.lemmas.List.FromFn.{get_or-map-range_with_len, length-map-range_with_len}
 use Rattle.std.proofs.lemmas.List.Sums.{sum_by-append, sum_by-cons}
 use Rattle.unit_rules.specs.Zone.{LiesOn}
 use Rattle.unit_rules.specs.declared.Bound.{Bound}
 use Rattle.unit_rules.specs.declared.Zone.{Zone}
-use Rattle.run_rules.specs.Caps.{binding_at, binds_at, bounds_at, cap_at, caps_of, least}
-use Rattle.run_rules.specs.Speeds.{squared}
+use Rattle.run_rules.specs.Caps.{binds_at, cap_at, caps_of}
 use Rattle.run_rules.specs.Walks.{AgreeOutside}
-use Rattle.limit_profile.proofs.LeastFacts.{least-append}
-use Rattle.limit_profile.proofs.ZoneFacts.{zoned_at-append}
+use Rattle.limit_profile.proofs.CapFacts.{cap_at-level}
+use Rattle.limit_profile.proofs.ZoneFacts.{zoned_at-within}
 use Rattle.limit_profile.specs.Breaks.{zoned_at}
-use Rattle.limit_profile.specs.Profile.{IsWithout}
 use Rattle.restrictions.proofs.ForceFacts.{count_by-without, zones_of-push}
 use Rattle.restrictions.specs.Force.{AreDistinct, has_id, without, zone_of, zones_of}
 use Rattle.incr_envelope.specs.Zones.{AreSame}
@@ -37,23 +36,19 @@ count_by-passes test z zs e = count_by-cons test z zs ∙ ap {B = ℕ} (λ b. co
 count_by-fails : (test : Zone → Bool) (z : Zone) (zs : List Zone) → test z ≡ false → count_by test (z ∷ zs) ≡ 0 + count_by test zs
 count_by-fails test z zs e = count_by-cons test z zs ∙ ap {B = ℕ} (λ b. cond b 1 0 + count_by test zs) e
 
--- in any order it doesn't matter at which end a zone is added
-pub AreSame-added : (xs : List Zone) (z : Zone) → AreSame (xs ++ z ∷ []) (z ∷ xs)
-AreSame-added xs z test = omega (arith, count_by-push test xs z, count_by-cons test z xs)
+-- a list in another order has the same zones
+pub AreSame-permutation : (xs ys : List Zone) → IsPermutation xs ys → AreSame xs ys
+AreSame-permutation xs ys same test = sym (sum_by-IsPermutation (λ z. cond (test z) 1 0) xs ys same)
 
--- a list is what is left of it after one zone was removed, and that zone
-pub AreSame-without : (z : Zone) (before after : List Zone) → IsWithout z before after → AreSame before (z ∷ after)
-AreSame-without z before after w test =
-    let stood = ap (count_by test) w.stood in
-    let stands = ap (count_by test) w.stands in
-    omega (arith, stood, stands, count_by-append test w.front (z ∷ w.back), count_by-append test w.front w.back, count_by-cons test z w.back, count_by-cons test z after)
+pub AreSame-sym : (xs ys : List Zone) → AreSame xs ys → AreSame ys xs
+AreSame-sym xs ys same test = sym (same test)
 
 -- limits and restrictions stay the zones of a profile where a zone is put among both
-pub AreSame-put : (zones limits : List Zone) (pairs : List (List ℕ × Zone)) (id : List ℕ) (z : Zone) → AreSame zones (limits ++ zones_of pairs)
-    → AreSame (zones ++ z ∷ []) (limits ++ zones_of (pairs ++ (id, z) ∷ []))
-AreSame-put zones limits pairs id z same test =
-    let put = ap (λ (zs : List Zone). count_by test (limits ++ zs)) (zones_of-push pairs id z) in
-    omega (arith, same test, put, count_by-push test zones z, count_by-append test limits (zones_of pairs), count_by-append test limits (zones_of pairs ++ z ∷ []), count_by-push test (zones_of pairs) z)
+pub AreSame-put : (before after limits : List Zone) (pairs : List (List ℕ × Zone)) (id : List ℕ) (z : Zone) → AreSame (z ∷ before) after → AreSame before (limits ++ zones_of pairs)
+    → AreSame after (limits ++ zones_of (pairs ++ (id, z) ∷ []))
+AreSame-put before after limits pairs id z put same test =
+    let pushed = ap (λ (zs : List Zone). count_by test (limits ++ zs)) (zones_of-push pairs id z) in
+    omega (arith, put test, same test, pushed, count_by-cons test z before, count_by-append test limits (zones_of pairs), count_by-append test limits (zones_of pairs ++ z ∷ []), count_by-push test (zones_of pairs) z)
 
 -- a zone of an ID is that of the first restriction, if it has the ID, or of one that follows
 zone_of-cons : (id : List ℕ) (p : List ℕ × Zone) (ps : List (List ℕ × Zone)) (b : Bool) → has_id id p ≡ b → zone_of id (p ∷ ps) ≡ cond b (Some p.1) (zone_of id ps)
@@ -65,13 +60,13 @@ without-cons id p ps true e = rw e refl
 without-cons id p ps false e = rw e refl
 
 -- limits and restrictions stay the zones of a profile where a zone is taken from both
-pub AreSame-taken : (before after limits : List Zone) (pairs : List (List ℕ × Zone)) (id : List ℕ) (z : Zone) → IsWithout z before after → AreSame before (limits ++ zones_of pairs)
+pub AreSame-taken : (before after limits : List Zone) (pairs : List (List ℕ × Zone)) (id : List ℕ) (z : Zone) → AreSame before (z ∷ after) → AreSame before (limits ++ zones_of pairs)
     → AreDistinct pairs → zone_of id pairs ≡ Some z → AreSame after (limits ++ zones_of (without id pairs))
-AreSame-taken before after limits pairs id z w same distinct at test =
+AreSame-taken before after limits pairs id z taken same distinct at test =
     omega (
       arith,
       same test,
-      AreSame-without z before after w test,
+      taken test,
       count_by-cons test z after,
       count_by-append test limits (zones_of pairs),
       count_by-append test limits (zones_of (without id pairs)),
@@ -157,69 +152,16 @@ zones_lie-taken n (p ∷ ps) id lie = by (has_id id p) refl (zones_lie-taken n p
 pub zone_lies : (n : ℕ) (pairs : List (List ℕ × Zone)) (id : List ℕ) (z : Zone) → All (LiesOn n) (zones_of pairs) → zone_of id pairs ≡ Some z → LiesOn n z
 zone_lies n pairs id z lie at = All-contains (LiesOn n) (zones_of pairs) z lie (zones_of-contains id z pairs at)
 
--- a number of zones that is the least of those that each has alone
-record IsLeast (most : ℕ) (whole : List Zone → ℕ) : Type 0 where
-  none : whole [] ≡ most
-  each : (z : Zone) (zs : List Zone) → whole (z ∷ zs) ≡ min (whole (z ∷ [])) (whole zs)
-
-IsLeast-le : (most : ℕ) (whole : List Zone → ℕ) (zs : List Zone) → IsLeast most whole → whole zs ≤ most
-IsLeast-le most whole [] alone = omega (arith, alone.none)
-IsLeast-le most whole (z ∷ zs) alone = omega (arith, alone.each z zs, IsLeast-le most whole zs alone)
-
--- whether a zone alone has at most v
-is_under : (List Zone → ℕ) → ℕ → Zone → Bool
-is_under whole v z = nat_le (whole (z ∷ [])) v
-
-is_under-tells : (whole : List Zone → ℕ) (v : ℕ) (z : Zone) → ((is_under whole v z ≡ true) × (whole (z ∷ []) ≤ v)) ⊎ ((is_under whole v z ≡ false) × (v < whole (z ∷ [])))
-unfolding is_under
-is_under-tells whole v z = leb_tells (whole (z ∷ [])) v
-
--- it is at most v where no zone is needed for that, or one has so little
-IsLeast-reached : (most v : ℕ) (whole : List Zone → ℕ) (zs : List Zone) → IsLeast most whole → whole zs ≤ v → (most ≤ v) ⊎ (1 ≤ count_by (is_under whole v) zs)
-IsLeast-reached most v whole [] alone h = inl (omega (arith, alone.none))
-IsLeast-reached most v whole (z ∷ zs) alone h = elim (is_under-tells whole v z) [
-  | inl under ↦ inr (omega (arith, count_by-passes (is_under whole v) z zs under.0))
-  | inr over ↦
-      elim (IsLeast-reached most v whole zs alone (omega (arith, alone.each z zs, over.1))) [
-        | inl low ↦ inl low
-        | inr some ↦ inr (omega (arith, count_by-cons (is_under whole v) z zs))
-      ]
-]
-
-IsLeast-under : (most v : ℕ) (whole : List Zone → ℕ) (zs : List Zone) → IsLeast most whole → 1 ≤ count_by (is_under whole v) zs → whole zs ≤ v
-IsLeast-under most v whole [] alone some = absurd (omega arith)
-IsLeast-under most v whole (z ∷ zs) alone some = elim (is_under-tells whole v z) [
-  | inl under ↦ omega (arith, alone.each z zs, under.1)
-  | inr over ↦
-      let rest = IsLeast-under most v whole zs alone (omega (arith, count_by-fails (is_under whole v) z zs over.0)) in
-      omega (arith, alone.each z zs)
-]
-
-IsLeast-fewer : (most : ℕ) (whole : List Zone → ℕ) (xs ys : List Zone) → IsLeast most whole → AreSame xs ys → whole xs ≤ whole ys
-IsLeast-fewer most whole xs ys alone same = elim (IsLeast-reached most (whole ys) whole ys alone (omega arith)) [
-  | inl low ↦ omega (arith, IsLeast-le most whole xs alone)
-  | inr some ↦ IsLeast-under most (whole ys) whole xs alone (omega (arith, same (is_under whole (whole ys))))
-]
-
--- so it is the same for zones in any order
-IsLeast-same : (most : ℕ) (whole : List Zone → ℕ) (xs ys : List Zone) → IsLeast most whole → AreSame xs ys → whole xs ≡ whole ys
-IsLeast-same most whole xs ys alone same =
-    omega (arith, IsLeast-fewer most whole xs ys alone same, IsLeast-fewer most whole ys xs alone (λ test. sym (same test)))
-
-zoned_at-IsLeast : (line train top i : ℕ) → IsLeast (squared top) (λ zs. zoned_at line train top zs i)
-zoned_at-IsLeast line train top i = record { none = refl; each = λ z zs. zoned_at-append line train top (z ∷ []) zs i }
-
--- the cap at a point is that of the zones, and then of the bounds there
-cap_at-zoned : (line train top : ℕ) (zs : List Zone) (bounds : List Bound) (i : ℕ) → cap_at line train top zs bounds i ≡ least (zoned_at line train top zs i) (bounds_at bounds i)
-cap_at-zoned line train top zs bounds i = least-append (squared top) (binding_at line train zs i) (bounds_at bounds i)
-
-cap_at-level : (line train top : ℕ) (xs ys : List Zone) (bounds : List Bound) (i : ℕ) → zoned_at line train top xs i ≡ zoned_at line train top ys i → cap_at line train top xs bounds i ≡ cap_at line train top ys bounds i
-cap_at-level line train top xs ys bounds i same = cap_at-zoned line train top xs bounds i ∙ ap (λ m. least m (bounds_at bounds i)) same ∙ sym (cap_at-zoned line train top ys bounds i)
+-- zones in any order have the same caps
+zoned_at-fewer : (line train top : ℕ) (xs ys : List Zone) (i : ℕ) → AreSame xs ys → zoned_at line train top xs i ≤ zoned_at line train top ys i
+zoned_at-fewer line train top xs ys i same =
+    zoned_at-within line train top xs ys i (λ k d l. Contains-same xs ys (slice_index_or ys k d) same (All-contains_itself ys k d l))
 
 -- zones in any order have the same cap at each point
 pub cap_at-same : (line train top : ℕ) (xs ys : List Zone) (bounds : List Bound) (i : ℕ) → AreSame xs ys → cap_at line train top xs bounds i ≡ cap_at line train top ys bounds i
 cap_at-same line train top xs ys bounds i same =
-    cap_at-level line train top xs ys bounds i (IsLeast-same (squared top) (λ zs. zoned_at line train top zs i) xs ys (zoned_at-IsLeast line train top i) same)
+    let zones : zoned_at line train top xs i ≡ zoned_at line train top ys i = omega (arith, zoned_at-fewer line train top xs ys i same, zoned_at-fewer line train top ys xs i (λ test. sym (same test))) in
+    cap_at-level line train top xs ys bounds i zones
 
 -- and the same caps
 pub caps_of-same : (line train top : ℕ) (xs ys : List Zone) (bounds : List Bound) → AreSame xs ys → caps_of line train top xs bounds ≡ caps_of line train top ys bounds

@@ -2,6 +2,7 @@
 
 ghost use Rattle.std.specs.Prelude.{◌≡◌, ◌≤◌, ◌+◌, ◌*◌, All, IfOk, length};
 ghost use Rattle.case_rules.specs.Case.{case_profile, train_motion, train_rule};
+ghost use Rattle.limit_profile.specs.Profile.{AreAlike, caps};
 ghost use Rattle.plan_tables.specs.Bounds.{bounds_of};
 ghost use Rattle.step_rule.specs.Motion.{cells_of, kmh_of};
 ghost use Rattle.incr_envelope.specs.Envelope.{caps_under};
@@ -88,8 +89,10 @@ pub(crate) fn course_of(
 ) -> Result<(Limits, Rule), Memory>
     requires plan { PlanLiesOn line.now.length plan.now }
     requires zones { All (LiesOn line.now.length) (zones_of force.now.pairs) }
-    ensures limits { IfOk result (λ both. both.0 ≡ case_profile line.now stock
-        (zones_of force.now.pairs) (bounds_of plan.now line.now.length)) }
+    ensures limits { IfOk result (λ both. AreAlike (case_profile line.now stock
+        (zones_of force.now.pairs) (bounds_of plan.now line.now.length)) both.0) }
+    ensures caps { IfOk result (λ both. caps both.0
+        ≡ caps_under line.now stock plan.now force.now.pairs) }
     ensures motion { IfOk result (λ both. both.1 ≡ train_motion line.now stock) }
     ensures cells { IfOk result (λ both. cells_of both.1 ≡ line.now.length) }
     ensures top { IfOk result (λ both. kmh_of both.1 ≡ stock.top) }

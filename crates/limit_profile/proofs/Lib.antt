@@ -6,3 +6,5 @@ pub mod BreakFacts
 pub mod ZoneFacts
 pub mod CountFacts
 pub mod StretchFacts
+pub mod RankFacts
+pub mod NearFacts

@@ -1,10 +1,12 @@
 -- The caps of the zones as a list of breaks, the points from which they are others than before.
 use Rattle.std.specs.Prelude.{◌≡◌, ℕ, zero, suc, ◌+◌, ◌-◌, ◌*◌, ◌≤◌, ◌<◌, length, slice_index_or, Bool, ◌||◌, ◌==◌, not, cond, List, [], ◌∷◌, ◌++◌}
+use Rattle.std.specs.List.Sorted.{IsNonDecreasingBy}
 use Rattle.unit_rules.specs.declared.Zone.{Zone}
 use Rattle.run_rules.specs.Caps.{binding_at, least}
 use Rattle.run_rules.specs.Speeds.{squared}
 use Rattle.limit_profile.specs.declared.breaks.Break.{Break}
 use Rattle.limit_profile.specs.Profile.{IsProfile, Profile}
+use Rattle.limit_profile.specs.Ranks.{rank_of}
 
 -- the least of the top speed and of the zones that bind at a point
 abbrev pub zoned_at : ℕ → ℕ → ℕ → List Zone → ℕ → ℕ
@@ -32,9 +34,10 @@ pub record AreBegun (breaks : List Break) : Type 0 where
   pub some : 0 < length breaks
   pub first : (d : Break) → (slice_index_or breaks 0 d).at ≡ 0
 
--- limits as they are kept: a profile and the breaks of its zones, with room for more of both, and to list either
+-- limits as they are kept: a profile with its zones by rank, and the breaks of these, with room for more of both, and to list either
 pub record IsKept (p : Profile) (breaks : List Break) (zone_room break_room other_room near_room : ℕ) : Type 0 where
   pub profile : IsProfile p
+  pub ranked : IsNonDecreasingBy rank_of p.zones
   pub listed : breaks ≡ breaks_of p
   pub zones_fit : length p.zones + p.spare ≤ zone_room
   pub breaks_fit : 2 * (length p.zones + p.spare) + 2 ≤ break_room

@@ -4,3 +4,4 @@ pub mod Pieces
 pub mod Breaks
 pub mod Course
 pub mod Changes
+pub mod Ranks

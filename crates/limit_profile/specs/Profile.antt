@@ -1,5 +1,5 @@
 -- What contracts see of the limits of a train on a line.
-use Rattle.std.specs.Prelude.{◌≡◌, ℕ, ◌+◌, ◌≤◌, List, ◌∷◌, ◌++◌, All}
+use Rattle.std.specs.Prelude.{◌≡◌, ℕ, ◌+◌, ◌-◌, ◌≤◌, List, ◌∷◌, All, IsPermutation}
 use Rattle.unit_rules.specs.Limits.{greatest_speed, longest_line, longest_train}
 use Rattle.unit_rules.specs.Zone.{LiesOn}
 use Rattle.unit_rules.specs.declared.Bound.{Bound}
@@ -43,14 +43,17 @@ caps p = caps_of p.length p.train p.top p.zones p.bounds
 abbrev pub rezoned : Profile → List Zone → ℕ → Profile
 rezoned p zones spare = record { length = p.length; train = p.train; top = p.top; zones = zones; bounds = p.bounds; spare = spare }
 
--- a list of zones is another without one zone, which stood between its front and its back
-pub record IsWithout (zone : Zone) (before after : List Zone) : Type 0 where
-  pub front : List Zone
-  pub back : List Zone
-  pub stood : before ≡ front ++ zone ∷ back
-  pub stands : after ≡ front ++ back
+-- two profiles are the same but for the order of their zones
+pub record AreAlike (p q : Profile) : Type 0 where
+  pub zones : IsPermutation p.zones q.zones
+  pub rest : q ≡ rezoned p q.zones p.spare
+
+-- a profile after a zone was added, in any place
+pub record IsAdded (zone : Zone) (before after : Profile) : Type 0 where
+  pub zones : IsPermutation (zone ∷ before.zones) after.zones
+  pub rest : after ≡ rezoned before after.zones (before.spare - 1)
 
 -- a profile after one of its zones was removed
 pub record IsFreed (zone : Zone) (before after : Profile) : Type 0 where
-  pub without : IsWithout zone before.zones after.zones
+  pub zones : IsPermutation before.zones (zone ∷ after.zones)
   pub rest : after ≡ rezoned before after.zones (before.spare + 1)

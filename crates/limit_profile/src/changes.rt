@@ -9,8 +9,11 @@ ghost use Rattle.limit_profile.specs.Breaks.{AreBegun, breaks_below};
 ghost use Rattle.limit_profile.specs.Changes.{AreBefore, ComesFrom, changed};
 ghost use Rattle.limit_profile.specs.Course.{IsCourse, zoned};
 ghost use Rattle.limit_profile.specs.Pieces.{IsPiece};
+ghost use Rattle.limit_profile.specs.Ranks.{rank_of};
+ghost use Rattle.std.specs.List.Sorted.{IsNonDecreasingBy};
 
 use crate::breaks::{Break, begin, break_from, break_up_to, count_below, held_piece};
+use crate::near::list_near;
 use crate::pieces::{Course, Piece, binds, bound_until, released, zones_piece};
 use run_rules::squared;
 use unit_rules::Zone;
@@ -63,6 +66,7 @@ pub(crate) fn free_breaks(
     requires course { IsCourse course }
     requires lies { LiesOn course.length zone }
     requires lie { All (LiesOn course.length) zones.now }
+    requires ranked { IsNonDecreasingBy rank_of zones.now }
     requires before { breaks.old.items ≡ breaks_below (λ i. min (zoned course zones.now i)
         (zoned course (zone ∷ []) i)) (course.length + 1) }
     requires near_room { length zones.now ≤ vec_capacity near.old }
@@ -231,34 +235,4 @@ fn is_hidden(course: Course, zone: Zone, breaks: &[Break]) -> bool
         point = held.until;
     }
     true
-}
-
-// Lists the zones that bind somewhere where a zone does.
-fn list_near(course: Course, zone: Zone, zones: &[Zone], near: &mut Vec<Zone>)
-    requires course { IsCourse course }
-    requires lies { LiesOn course.length zone }
-    requires lie { All (LiesOn course.length) zones.now }
-    requires room { length zones.now ≤ vec_capacity near.old }
-    ensures lie { All (LiesOn course.length) near.new.items }
-    ensures same { (i : ℕ) → binds_at course.length course.train i zone ≡ true
-        → zoned course near.new.items i ≡ zoned course zones.now i }
-    ensures room { vec_capacity near.new ≡ vec_capacity near.old }
-{
-    near.clear();
-    for other in zones {
-        if meets(course, zone, *other) {
-            near.push_reserved(*other);
-        }
-    }
-}
-
-// Whether two zones bind at one point.
-fn meets(course: Course, zone: Zone, other: Zone) -> bool
-    requires course { IsCourse course }
-    requires lies { LiesOn course.length zone }
-    requires other { LiesOn course.length other }
-    ensures { result ≡ false → (i : ℕ) → binds_at course.length course.train i zone ≡ true
-        → binds_at course.length course.train i other ≡ false }
-{
-    zone.from < released(course, other) && other.from < released(course, zone)
 }

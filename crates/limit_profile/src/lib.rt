@@ -8,16 +8,19 @@ ghost use Rattle.run_rules.specs.Speeds.{squared};
 ghost use Rattle.unit_rules.specs.Zone.{LiesOn};
 ghost use Rattle.limit_profile.specs.Breaks.{Neighbours, breaks_of, zoned_at};
 ghost use Rattle.limit_profile.specs.Levels.{IsLevel};
-ghost use Rattle.limit_profile.specs.Profile.{IsFreed, IsProfile, Profile, cap, caps, profile_of, rezoned};
+ghost use Rattle.limit_profile.specs.Profile.{AreAlike, IsAdded, IsFreed, IsProfile, Profile, cap, caps, profile_of, rezoned};
 
 mod breaks;
 mod changes;
+mod near;
 mod pieces;
+mod ranks;
 
 pub use crate::breaks::Break;
 use crate::breaks::{break_up_to, held_piece, list_breaks};
 use crate::changes::{Change, change_breaks, free_breaks};
 use crate::pieces::{Course, zoned_pieces};
+use crate::ranks::{insert, ranked, remove};
 use std::alloc::Global;
 use std::marker::Model;
 use unit_rules::{Bound, Memory, Zone};
@@ -51,6 +54,7 @@ impl Level {
 #[derive(Drop)]
 pub struct Limits {
     course: Course,
+    // By rank, so that those near a point are found with no pass over all.
     zones: Vec<Zone>,
     bounds: Vec<Bound>,
     // How many zones can be added with no more memory.
@@ -90,7 +94,8 @@ impl Model for Limits {
 
 impl Limits {
     /// The limits of a line of `length` metres for a train of `train` metres and a top speed of
-    /// `top` km/h: zones bind until the tail has left them, and a bound holds at its one point.
+    /// `top` km/h: zones bind until the tail has left them, and a bound holds at its one point. The zones
+    /// are kept in an order of their own.
     pub fn new(
         alloc: Global,
         length: u32,
@@ -100,16 +105,16 @@ impl Limits {
         bounds: &[Bound],
     ) -> Result<Limits, Memory>
         requires { IsProfile (profile_of length train top zones.now bounds.now) }
-        ensures { IfOk result (λ l. l ≡ profile_of length train top zones.now bounds.now) }
+        ensures { IfOk result (AreAlike (profile_of length train top zones.now bounds.now)) }
     {
         let course = Course { length, train, top };
-        let pieces = zoned_pieces(alloc, course, zones)?;
+        let zones = ranked(alloc, zones)?;
+        let pieces = zoned_pieces(alloc, course, &zones)?;
         let room = break_room(zones.len());
         let breaks = list_breaks(alloc, &pieces, room.max(pieces.len()))?;
         let other = list_breaks(alloc, &[], room)?;
-        let (Ok(near), Ok(zones), Ok(bounds)) = (
+        let (Ok(near), Ok(bounds)) = (
             Vec::with_capacity(alloc, zones.len()),
-            Vec::from_slice(alloc, zones),
             Vec::from_slice(alloc, bounds),
         ) else {
             return Err(Memory);
@@ -159,9 +164,9 @@ impl Limits {
     pub fn add(&mut self, zone: Zone)
         requires spare { 1 ≤ self.old.spare }
         requires lies { LiesOn self.old.length zone }
-        ensures { self.new ≡ rezoned self.old (self.old.zones ++ zone ∷ []) (self.old.spare - 1) }
+        ensures { IsAdded zone self.old self.new }
     {
-        self.zones.push_reserved(zone);
+        insert(&mut self.zones, zone);
         self.spare -= 1;
         change_breaks(
             self.course,
@@ -178,8 +183,7 @@ impl Limits {
         requires { Contains self.old.zones zone }
         ensures { IsFreed zone self.old self.new }
     {
-        let index = index_of(&self.zones, zone);
-        self.zones.remove(index);
+        remove(&mut self.zones, zone);
         self.spare += 1;
         free_breaks(
             self.course,
@@ -304,22 +308,6 @@ fn grow<T>(list: &mut Vec<T>, room: usize) -> Result<(), Memory>
         return Err(Memory);
     };
     Ok(())
-}
-
-// Where the first of the zones that are equal to a zone stands.
-fn index_of(zones: &[Zone], zone: Zone) -> usize
-    requires { Contains zones.now zone }
-    ensures bound { result < length zones.now }
-    ensures zone { (d : Zone) → slice_index_or zones.now result d ≡ zone }
-{
-    let mut place = 0;
-    for other in zones {
-        if *other == zone {
-            return place;
-        }
-        place += 1;
-    }
-    place
 }
 
 // Points from one up to another.
@@ -489,6 +477,28 @@ mod tests {
         assert!(rt; holds(alloc, &[near], zone(10, 19, 30)));
         assert!(rt; holds(alloc, &[near], zone(70, 80, 10)));
         assert!(rt; holds(alloc, &[near], zone(70, 79, 10)));
+        Ok(())
+    }
+
+    // Of zones of one class, about one that binds from 40 to 80: the last that is released before it and
+    // the first that isn't, the last that begins in it and the first that doesn't; and zones of three.
+    #[test]
+    fn classes(rt: HostRuntime) -> Result<(), Fail> {
+        let alloc = rt.alloc();
+        let changed = zone(40, 60, 50);
+        assert!(rt; holds(alloc, &[zone(18, 19, 9), zone(19, 20, 8)], changed));
+        assert!(rt; holds(alloc, &[zone(16, 19, 9), zone(18, 20, 8)], changed));
+        assert!(rt; holds(alloc, &[zone(4, 19, 9), zone(8, 20, 8)], changed));
+        assert!(rt; holds(alloc, &[zone(3, 19, 9), zone(4, 20, 8)], changed));
+        assert!(rt; holds(alloc, &[zone(80, 81, 9), zone(81, 82, 8)], changed));
+        assert!(rt; holds(alloc, &[zone(80, 95, 9), zone(81, 96, 8)], changed));
+        assert!(rt;
+            holds(
+                alloc,
+                &[zone(1, 100, 30), zone(60, 76, 20), zone(79, 80, 10)],
+                changed
+            )
+        );
         Ok(())
     }
 

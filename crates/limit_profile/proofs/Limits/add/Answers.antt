@@ -1,9 +1,10 @@
-use Rattle.std.proofs.Common.{List, [], ◌∷◌, ◌++◌, ◌+◌, arith, ap, length, ◌∙◌}
-use Rattle.std.proofs.lemmas.List.{length-append}
-use Rattle.std.proofs.lemmas.List.Elements.{All-push}
+use Rattle.std.proofs.Common.{◌∷◌, ◌-◌, ◌+◌, arith}
+use Rattle.std.proofs.lemmas.List.Elements.{All-cons}
+use Rattle.std.proofs.lemmas.List.Sorted.{All-permutation}
 use Rattle.unit_rules.specs.Zone.{LiesOn}
-use Rattle.unit_rules.specs.declared.Zone.{Zone}
 use Rattle.limit_profile.specs.Course.{zoned}
+use Rattle.limit_profile.specs.Profile.{Profile}
+use Rattle.limit_profile.proofs.CapFacts.{IsProfile-rezoned}
 use Rattle.limit_profile.proofs.CountFacts.{count-zones}
 use Rattle.limit_profile.proofs.ZoneFacts.{zoned_at-added}
 use Rattle.limit_profile.proofs.Limits.add.Goals as goal
@@ -13,43 +14,39 @@ change_breaks-requires-clause-before c =
     let kept = c.self.invariant in
     let course = c.self.inside.course in
     let zones = c.self.inside.zones.items in
-    let more = zones ++ c.args.zone ∷ [] in
-    let longer = length-append zones (c.args.zone ∷ []) in
-    let lie = All-push (LiesOn course.length) zones c.args.zone kept.profile.zones_lie (rw (← c.self.view_is) at c.requires.lies) in
+    let zone = c.args.zone in
+    let more = c.insert.new.zones.items in
+    let lies = rw (← c.self.view_is) at c.requires.lies in
+    let lie = All-permutation (LiesOn course.length) (zone ∷ zones) more c.insert.ensures.same (All-cons (LiesOn course.length) zone zones lies kept.profile.zones_lie) in
     let few = count-zones course.length course.train course.top more (course.length + 1) lie in
     let spare = rw (← c.self.view_is) at c.requires.spare in
     record {
       before = zoned course zones;
       after = zoned course more;
-      come = zoned_at-added course zones c.args.zone;
+      come = zoned_at-added course zones more zone c.insert.ensures.same;
       listed = kept.listed;
-      fit = omega (arith, few, longer, spare, kept.breaks_fit, kept.others_fit);
+      fit = omega (arith, few, c.insert.ensures.len, c.insert.new.zones.ok, c.self.inside.zones.ok, spare, kept.breaks_fit, kept.others_fit);
     }
 
 pub invariant_of-self : goal.invariant_of-self
 invariant_of-self c =
     let kept = c.self.invariant in
-    let before = kept.profile in
     let course = c.self.inside.course in
     let zones = c.self.inside.zones.items in
-    let items = c.push_reserved.ensures.items in
-    let longer = ap (λ (zs : List Zone). length zs) items ∙ length-append zones (c.args.zone ∷ []) in
+    let zone = c.args.zone in
+    let more = c.insert.new.zones.items in
+    let lies = rw (← c.self.view_is) at c.requires.lies in
+    let lie = All-permutation (LiesOn course.length) (zone ∷ zones) more c.insert.ensures.same (All-cons (LiesOn course.length) zone zones lies kept.profile.zones_lie) in
     let spare = rw (← c.self.view_is) at c.requires.spare in
-    let more = c.change_breaks.ensures in
+    let before : Profile = record { length = course.length; train = course.train; top = course.top; zones = zones; bounds = c.self.inside.bounds.items; spare = c.self.inside.spare } in
+    let longer = c.insert.ensures.len in
+    let changed = c.change_breaks.ensures in
     record {
-      profile = record {
-        length_least = before.length_least;
-        length_most = before.length_most;
-        train_least = before.train_least;
-        train_most = before.train_most;
-        top_least = before.top_least;
-        top_most = before.top_most;
-        zones_lie = rw items (All-push (LiesOn course.length) zones c.args.zone before.zones_lie (rw (← c.self.view_is) at c.requires.lies));
-        bounds_lie = before.bounds_lie;
-      };
-      listed = rw items (more.listed (zoned course zones) (zoned course (zones ++ c.args.zone ∷ [])) (zoned_at-added course zones c.args.zone) kept.listed);
-      zones_fit = omega (arith, longer, spare, kept.zones_fit, c.push_reserved.ensures.capacity);
-      breaks_fit = omega (arith, longer, spare, kept.breaks_fit, more.room);
-      others_fit = omega (arith, longer, spare, kept.others_fit, more.list_room);
-      near_fit = omega (arith, longer, spare, kept.near_fit);
+      profile = IsProfile-rezoned before more (before.spare - 1) kept.profile lie;
+      ranked = c.insert.ensures.ranked;
+      listed = changed.listed (zoned course zones) (zoned course more) (zoned_at-added course zones more zone c.insert.ensures.same) kept.listed;
+      zones_fit = omega (arith, longer, c.insert.new.zones.ok, c.self.inside.zones.ok, spare, kept.zones_fit, c.insert.ensures.room);
+      breaks_fit = omega (arith, longer, c.insert.new.zones.ok, c.self.inside.zones.ok, spare, kept.breaks_fit, changed.room);
+      others_fit = omega (arith, longer, c.insert.new.zones.ok, c.self.inside.zones.ok, spare, kept.others_fit, changed.list_room);
+      near_fit = omega (arith, longer, c.insert.new.zones.ok, c.self.inside.zones.ok, spare, kept.near_fit);
     }

@@ -8,7 +8,7 @@ use Rattle.incr_envelope.proofs.envelope.Envelope.put.Goals as goal
 pub run_again-requires-clause-older : goal.run_again-requires-clause-older
 run_again-requires-clause-older g c =
     let reserved = IsKept-room _ c.reserve.new.self 1 c.self.invariant c.in-Ok.ensures.made in
-    rw (c.last_bound-to.ensures, c.length.ensures.length) (WasFastest-put _ c.args.zone c.add.new.self _ reserved c.add.ensures)
+    rw (c.last_bound-to.ensures, c.length.ensures.length) (WasFastest-put _ c.args.zone c.add.new.self reserved c.add.ensures)
 
 pub invariant_of-self-2 : goal.invariant_of-self-2
 invariant_of-self-2 g c =

@@ -11,6 +11,6 @@ returns-clause-right g c =
     let case = c.args.claim.case in
     let both = c.in_ok-limits in
     let rule : step_rule_of both.rule ≡ train_rule case.line case.stock = ap step_rule_of both.ensures.motion in
-    let limits : caps both.limits ≡ caps_under case.line case.stock case.plan case.force.pairs = ap caps (rw (c.deref.ensures.value, c.in_ok-zones.ensures.zones) at both.ensures.profile) in
+    let limits : caps both.limits ≡ caps_under case.line case.stock case.plan case.force.pairs = rw (c.deref.ensures.value, c.in_ok-zones.ensures.zones) at both.ensures.caps in
     let found = c.check-found.ensures in
     checked-answers case.line case.stock case.plan case.force.pairs c.args.claim.cert c.check-found.result found.verdict (rw (rule, limits) at found.valid) (rw (rule, limits) at found.right) (rw (rule, limits) at found.broken)
