@@ -179,20 +179,42 @@ def print_edits(programs: Sequence[pathlib.Path], turns: int) -> None:
         run.row([work.name, *(f"{count:,}" for count in counts), f"{edit * 1000:.4f}", *columns])
 
 
+def force(count: int) -> list[str]:
+    """The lines that put so many restrictions in force, each before all others on the line and by its name."""
+    step = LONGEST // 2 // max(IN_FORCE)
+    starts = [9 * LONGEST // 10 - step * number for number in range(count)]
+    return [put((start, start + 1, 498), f"r{start}") for start in starts]
+
+
+def put_seconds(program: pathlib.Path, turns: int) -> list[float]:
+    """What one more `put` costs for each count in force, by a line through what half of the most and all cost.
+
+    Where a `put` costs `a + b * n` with `n` in force, `n` of them cost `a * n + b * n * n / 2`.
+    """
+    most = max(IN_FORCE)
+    counts = (0, most // 2, most)
+    free, half, whole = (least(session(program), "".join(force(count)), turns) for count in counts)
+    early, late = (half - free) / (most // 2), (whole - half) / (most // 2)
+    growth = (late - early) / (most // 2)
+    return [early + growth * (count - most // 4) for count in IN_FORCE]
+
+
+def pair_seconds(program: pathlib.Path, count: int, turns: int) -> float:
+    """The mean of a `put` before all that are in force and of the `take` behind it, so many with the one."""
+    others = "".join(force(count - 1))
+    edits = f"{put(plain().zones[0])}take a\n" * PLACES
+    free, edited = (least(session(program), lines, turns) for lines in (others, others + edits))
+    return (edited - free) / (2 * PLACES)
+
+
 def print_in_force(program: pathlib.Path, turns: int) -> None:
     """Prints what an edit costs where few and where many restrictions are in force."""
-    run.head(["in force", "ms an edit", "to the first"])
-    work = plain()
-    work.lay(pathlib.Path())
-    edits = f"{put(work.zones[0])}take a\n" * PLACES
-    found = []
-    for count in IN_FORCE:
-        step = LONGEST // 2 // max(IN_FORCE)
-        starts = [2 * LONGEST // 5 + step * number for number in range(count - 1)]
-        others = "".join(put((start, start + 1, 498), f"r{start}") for start in starts)
-        spans = [least(session(program), lines, turns) for lines in (others, others + edits)]
-        found.append((spans[1] - spans[0]) / (2 * PLACES))
-        run.row([f"{count:,}", f"{found[-1] * 1000:.4f}", f"{found[-1] / found[0]:.2f}"])
+    run.head(["in force", "ms a put", "to the first", "ms an edit, put and take", "to the first"])
+    plain().lay(pathlib.Path())
+    puts, pairs = put_seconds(program, turns), [pair_seconds(program, count, turns) for count in IN_FORCE]
+    for count, one, edit in zip(IN_FORCE, puts, pairs):
+        columns = [f"{one * 1000:.4f}", f"{one / puts[0]:.2f}", f"{edit * 1000:.4f}", f"{edit / pairs[0]:.2f}"]
+        run.row([f"{count:,}", *columns])
 
 
 def delays(program: pathlib.Path, lines: Sequence[str]) -> Iterator[tuple[str, float]]:
