@@ -111,10 +111,9 @@ pub zoned_at-freed : (c : Course) (before after : List Zone) (zone : Zone) (i : 
 zoned_at-freed c before after zone i same =
     omega (arith, zoned_at-permutation c.length c.train c.top before (zone ∷ after) i same, zoned_at-append c.length c.train c.top (zone ∷ []) after i)
 
--- and where it binds they are those of others that bind there
-pub zoned_at-removed : (c : Course) (zones near : List Zone) (zone : Zone) → ((i : ℕ) → binds_at c.length c.train i zone ≡ true → zoned c near i ≡ zoned c zones i)
-    → ComesFrom c Removed zone near (λ i. min (zoned c zones i) (zoned c (zone ∷ []) i)) (zoned c zones)
-zoned_at-removed c zones near zone same = record {
+-- where it doesn't bind, these are those after
+pub zoned_at-removed : (c : Course) (zones : List Zone) (zone : Zone) → ComesFrom c Removed zone zones (λ i. min (zoned c zones i) (zoned c (zone ∷ []) i)) (zoned c zones)
+zoned_at-removed c zones zone = record {
   outside = λ i e. sym (zoned_at-unbound c.length c.train c.top zones zone i e);
-  inside = λ i e. sym (same i e);
+  inside = λ i e. refl;
 }

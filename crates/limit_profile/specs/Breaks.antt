@@ -34,12 +34,11 @@ pub record AreBegun (breaks : List Break) : Type 0 where
   pub some : 0 < length breaks
   pub first : (d : Break) → (slice_index_or breaks 0 d).at ≡ 0
 
--- limits as they are kept: a profile with its zones by rank, and the breaks of these, with room for more of both, and to list either
-pub record IsKept (p : Profile) (breaks : List Break) (zone_room break_room other_room near_room : ℕ) : Type 0 where
+-- limits as they are kept: a profile with its zones by rank, and the breaks of these, with room for more of both, and to list breaks
+pub record IsKept (p : Profile) (breaks : List Break) (zone_room break_room other_room : ℕ) : Type 0 where
   pub profile : IsProfile p
   pub ranked : IsNonDecreasingBy rank_of p.zones
   pub listed : breaks ≡ breaks_of p
   pub zones_fit : length p.zones + p.spare ≤ zone_room
   pub breaks_fit : 2 * (length p.zones + p.spare) + 2 ≤ break_room
   pub others_fit : 2 * (length p.zones + p.spare) + 2 ≤ other_room
-  pub near_fit : length p.zones + p.spare ≤ near_room

@@ -13,8 +13,8 @@ ghost use Rattle.limit_profile.specs.Ranks.{rank_of};
 ghost use Rattle.std.specs.List.Sorted.{IsNonDecreasingBy};
 
 use crate::breaks::{Break, begin, break_from, break_up_to, count_below, held_piece};
-use crate::near::list_near;
-use crate::pieces::{Course, Piece, binds, bound_until, released, zones_piece};
+use crate::near::zones_piece;
+use crate::pieces::{Course, Piece, binds, bound_until, released};
 use run_rules::squared;
 use unit_rules::Zone;
 
@@ -26,7 +26,7 @@ pub(crate) enum Change {
 }
 
 // Makes of the breaks from before a zone was added or removed those that are after it. `zones` are those
-// that are left, or as many of them as bind where the zone bound; where one was added, none is looked at.
+// that are left; where one was added, none is looked at.
 pub(crate) fn change_breaks(
     course: Course,
     change: Change,
@@ -38,6 +38,7 @@ pub(crate) fn change_breaks(
     requires course { IsCourse course }
     requires lies { LiesOn course.length zone }
     requires lie { All (LiesOn course.length) zones.now }
+    requires ranked { IsNonDecreasingBy rank_of zones.now }
     requires before { AreBefore course change zone zones.now breaks.old.items
         (min (vec_capacity breaks.old) (vec_capacity list.old)) }
     ensures listed { (f g : ℕ → ℕ) → ComesFrom course change zone zones.now f g
@@ -53,13 +54,11 @@ pub(crate) fn change_breaks(
     put_between(breaks, first, past, list);
 }
 
-// Makes of the breaks from before a zone was removed those of the zones that are left. Some of these are
-// listed in `near`.
+// Makes of the breaks from before a zone was removed those of the zones that are left.
 pub(crate) fn free_breaks(
     course: Course,
     zone: Zone,
     zones: &[Zone],
-    near: &mut Vec<Zone>,
     breaks: &mut Vec<Break>,
     list: &mut Vec<Break>,
 )
@@ -69,19 +68,16 @@ pub(crate) fn free_breaks(
     requires ranked { IsNonDecreasingBy rank_of zones.now }
     requires before { breaks.old.items ≡ breaks_below (λ i. min (zoned course zones.now i)
         (zoned course (zone ∷ []) i)) (course.length + 1) }
-    requires near_room { length zones.now ≤ vec_capacity near.old }
     requires room { 2 * length zones.now + 2 ≤ vec_capacity breaks.old }
     requires list_room { 2 * length zones.now + 2 ≤ vec_capacity list.old }
     ensures listed { breaks.new.items ≡ breaks_below (zoned course zones.now) (course.length + 1) }
-    ensures near_room { vec_capacity near.new ≡ vec_capacity near.old }
     ensures room { vec_capacity breaks.old ≤ vec_capacity breaks.new }
     ensures list_room { vec_capacity list.old ≤ vec_capacity list.new }
 {
     if is_hidden(course, zone, breaks) {
         return;
     }
-    list_near(course, zone, zones, near);
-    change_breaks(course, Change::Removed, zone, near, breaks, list);
+    change_breaks(course, Change::Removed, zone, zones, breaks, list);
 }
 
 // Lists the breaks from where a changed zone begins to bind up to a point.
@@ -97,6 +93,7 @@ fn list_stretch(
     requires course { IsCourse course }
     requires lies { LiesOn course.length zone }
     requires lie { All (LiesOn course.length) zones.now }
+    requires ranked { IsNonDecreasingBy rank_of zones.now }
     requires past { zone.from ≤ until }
     requires on_line { until ≤ course.length + 1 }
     requires before { AreBefore course change zone zones.now breaks.now (vec_capacity list.old) }
@@ -164,6 +161,7 @@ fn changed_piece(
     requires course { IsCourse course }
     requires lies { LiesOn course.length zone }
     requires lie { All (LiesOn course.length) zones.now }
+    requires ranked { IsNonDecreasingBy rank_of zones.now }
     requires on_line { point ≤ course.length }
     requires past { point < held.until }
     ensures past { point < result.until }
@@ -189,6 +187,7 @@ fn bound_piece(
     requires course { IsCourse course }
     requires lies { LiesOn course.length zone }
     requires lie { All (LiesOn course.length) zones.now }
+    requires ranked { IsNonDecreasingBy rank_of zones.now }
     requires on_line { point ≤ course.length }
     requires past { point < held.until }
     ensures past { point < result.until }

@@ -60,9 +60,8 @@ pub struct Limits {
     // How many zones can be added with no more memory.
     spare: usize,
     breaks: Vec<Break>,
-    // In which the breaks of a changed zone are listed, and the zones that bind where it did.
+    // In which the breaks of a changed zone are listed.
     other: Vec<Break>,
-    near: Vec<Zone>,
 }
 
 impl Model for Limits {
@@ -88,8 +87,7 @@ impl Model for Limits {
       zones = l.zones.items;
       bounds = l.bounds.items;
       spare = l.spare;
-    }) l.breaks.items (vec_capacity l.zones) (vec_capacity l.breaks) (vec_capacity l.other)
-        (vec_capacity l.near) };
+    }) l.breaks.items (vec_capacity l.zones) (vec_capacity l.breaks) (vec_capacity l.other) };
 }
 
 impl Limits {
@@ -113,10 +111,7 @@ impl Limits {
         let room = break_room(zones.len());
         let breaks = list_breaks(alloc, &pieces, room.max(pieces.len()))?;
         let other = list_breaks(alloc, &[], room)?;
-        let (Ok(near), Ok(bounds)) = (
-            Vec::with_capacity(alloc, zones.len()),
-            Vec::from_slice(alloc, bounds),
-        ) else {
+        let Ok(bounds) = Vec::from_slice(alloc, bounds) else {
             return Err(Memory);
         };
         Ok(Limits {
@@ -126,7 +121,6 @@ impl Limits {
             spare: 0,
             breaks,
             other,
-            near,
         })
     }
 
@@ -148,9 +142,8 @@ impl Limits {
             return Err(Memory);
         }
         let room = break_room(zones);
-        let (Ok(()), Ok(()), Ok(()), Ok(())) = (
+        let (Ok(()), Ok(()), Ok(())) = (
             self.zones.reserve(count),
-            grow(&mut self.near, zones),
             grow(&mut self.breaks, room),
             grow(&mut self.other, room),
         ) else {
@@ -189,7 +182,6 @@ impl Limits {
             self.course,
             zone,
             &self.zones,
-            &mut self.near,
             &mut self.breaks,
             &mut self.other,
         );
@@ -499,6 +491,17 @@ mod tests {
                 changed
             )
         );
+        Ok(())
+    }
+
+    // Several of one class below a zone on the whole line, two of them in the same place.
+    #[test]
+    fn covered(rt: HostRuntime) -> Result<(), Fail> {
+        let one = zone(30, 31, 7);
+        let other = zone(30, 31, 8);
+        let last = zone(60, 61, 6);
+        assert!(rt; holds(rt.alloc(), &[one, other, last], zone(0, 100, 50)));
+        assert!(rt; holds(rt.alloc(), &[one, other, last], zone(0, 100, 7)));
         Ok(())
     }
 

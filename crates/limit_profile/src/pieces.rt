@@ -51,7 +51,7 @@ pub(crate) fn zoned_pieces(
 }
 
 // The one piece of a line with no zones.
-fn free_piece(course: Course) -> Piece
+pub(crate) fn free_piece(course: Course) -> Piece
     requires { IsCourse course }
     ensures until { result.until ≡ course.length + 1 }
     ensures piece { IsPiece (zoned course []) 0 result }
@@ -146,22 +146,6 @@ pub(crate) fn zone_piece(course: Course, zone: Zone, point: u32) -> Piece
         };
     }
     Piece { until, most: free }
-}
-
-// The piece of the least of the top speed and of all zones that bind, from a point on. It goes through
-// all zones.
-pub(crate) fn zones_piece(course: Course, zones: &[Zone], point: u32) -> Piece
-    requires course { IsCourse course }
-    requires lie { All (LiesOn course.length) zones.now }
-    requires on_line { point ≤ course.length }
-    ensures past { point < result.until }
-    ensures piece { IsPiece (zoned course zones.now) point result }
-{
-    let mut piece = free_piece(course);
-    for zone in zones {
-        piece = lesser(piece, zone_piece(course, *zone, point));
-    }
-    piece
 }
 
 // The piece of the lesser of two caps, from a piece of each.

@@ -9,6 +9,9 @@ use Rattle.limit_profile.proofs.CountFacts.{count-zones}
 use Rattle.limit_profile.proofs.ZoneFacts.{zoned_at-added}
 use Rattle.limit_profile.proofs.Limits.add.Goals as goal
 
+pub change_breaks-requires-clause-ranked : goal.change_breaks-requires-clause-ranked
+change_breaks-requires-clause-ranked c = λ i j d le lt. absurd (omega arith)
+
 pub change_breaks-requires-clause-before : goal.change_breaks-requires-clause-before
 change_breaks-requires-clause-before c =
     let kept = c.self.invariant in
@@ -48,5 +51,4 @@ invariant_of-self c =
       zones_fit = omega (arith, longer, c.insert.new.zones.ok, c.self.inside.zones.ok, spare, kept.zones_fit, c.insert.ensures.room);
       breaks_fit = omega (arith, longer, c.insert.new.zones.ok, c.self.inside.zones.ok, spare, kept.breaks_fit, changed.room);
       others_fit = omega (arith, longer, c.insert.new.zones.ok, c.self.inside.zones.ok, spare, kept.others_fit, changed.list_room);
-      near_fit = omega (arith, longer, c.insert.new.zones.ok, c.self.inside.zones.ok, spare, kept.near_fit);
     }

@@ -18,11 +18,10 @@ invariant_of-result c =
     let made = profile_of c.args.length c.args.train c.args.top c.args.zones.now c.args.bounds.now in
     let lie = All-permutation (LiesOn c.args.length) c.args.zones.now zones c.in_ok-zones.ensures.same c.requires.zones_lie in
     record {
-      profile = rw c.in-Ok-Ok.ensures'.items (IsProfile-rezoned made zones 0 c.requires lie);
+      profile = rw c.in-Ok.ensures.items (IsProfile-rezoned made zones 0 c.requires lie);
       ranked = c.in_ok-zones.ensures.ranked;
       listed = c.in_ok-breaks.ensures.listed (zoned course zones) (course.length + 1) (rw (c.deref-2.ensures.value, ← c.deref.ensures.value) c.in_ok-pieces.ensures);
       zones_fit = omega (arith, c.in_ok-zones.zones.ok);
       breaks_fit = omega (arith, c.in_ok-breaks.ensures.room, c.max.ensures, c.break_room-room.ensures, c.len.ensures, c.in_ok-zones.zones.ok);
       others_fit = omega (arith, c.in_ok-other.ensures.room, c.break_room-room.ensures, c.len.ensures, c.in_ok-zones.zones.ok);
-      near_fit = omega (arith, c.in-Ok-Ok.ensures.capacity, c.len-3.ensures, c.in_ok-zones.zones.ok);
     }

@@ -42,5 +42,4 @@ invariant_of-self c =
       zones_fit = omega (arith, fewer, c.remove.new.zones.ok, c.self.inside.zones.ok, kept.zones_fit, c.remove.ensures.room);
       breaks_fit = omega (arith, fewer, c.remove.new.zones.ok, c.self.inside.zones.ok, kept.breaks_fit, freed.room);
       others_fit = omega (arith, fewer, c.remove.new.zones.ok, c.self.inside.zones.ok, kept.others_fit, freed.list_room);
-      near_fit = omega (arith, fewer, c.remove.new.zones.ok, c.self.inside.zones.ok, kept.near_fit, freed.near_room);
     }

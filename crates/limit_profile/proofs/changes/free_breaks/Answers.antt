@@ -27,7 +27,7 @@ change_breaks-requires-clause-before c =
     record {
       before = λ i. min (zoned course zones i) (zoned course (c.args.zone ∷ []) i);
       after = zoned course zones;
-      come = zoned_at-removed course zones c.deref-2.result.now c.args.zone (rw (← c.deref-2.ensures.value) at c.list_near.ensures.same);
+      come = zoned_at-removed course zones c.args.zone;
       listed = c.requires.before;
       fit = omega (arith, few, c.requires.room, c.requires.list_room);
     }
@@ -37,4 +37,4 @@ returns-clause-listed c =
     let course = c.args.course in
     let zones = c.args.zones.now in
     let before : ℕ → ℕ = λ i. min (zoned course zones i) (zoned course (c.args.zone ∷ []) i) in
-    c.change_breaks.ensures.listed before (zoned course zones) (zoned_at-removed course zones c.deref-2.result.now c.args.zone (rw (← c.deref-2.ensures.value) at c.list_near.ensures.same)) c.requires.before
+    c.change_breaks.ensures.listed before (zoned course zones) (zoned_at-removed course zones c.args.zone) c.requires.before
